@@ -1,0 +1,2 @@
+// The calls of the trading session, over the plain record of a book.
+pub mod orders;
