@@ -1,7 +1,9 @@
 // Margin, frozen funds, available funds and free lots, each the full sum over holdings and requests.
 ghost use mathlib.Core.Path.{_≡_};
 ghost use Prim.Native.Nat.{ℕ, _<_, _≤_, _*_, _^_};
+ghost use lib.IntN.{natAbs};
 ghost use lib.ListN.{length};
+ghost use Rattle.ledger.specs.Kept.{Kept};
 ghost use Rattle.ledger.specs.Ledger.{view, cash-of, option-of, future-of, future-under};
 ghost use Rattle.ledger.specs.Funds.{rate-of, future-margin, option-margin, contract-margin, margin-of, instructs, lots-frozen-by, funds-frozen-by, frozen-lots-of, free-of, frozen-of, available-of, InRange};
 use crate::records::Channel;
@@ -172,12 +174,22 @@ pub fn frozen(state: &State, account: usize) -> u128
     total
 }
 
+// An account's cash.
+pub fn cash(state: &State, account: usize) -> i128
+    requires { ⌜ account < 32 ⌝ ∗ ⌜ Kept (now state) ⌝ }
+    ensures cash { λ r. ⌜ r ≡ cash-of (view (now (state .entry))) account ⌝ }
+    ensures range { λ r. ⌜ InRange r ⌝ }
+{
+    state.accounts[account].cash
+}
+
 // An account's cash less its margin less its frozen funds.
 pub fn available(state: &State, account: usize) -> i128
-    requires { ⌜ account < 32 ⌝ ∗ ⌜ length (now state .requests) ≡ 256 ⌝ ∗ ⌜ InRange (cash-of (view (now state)) account) ⌝ }
-    ensures { λ r. ⌜ r ≡ available-of (view (now (state .entry))) account ⌝ }
+    requires { ⌜ account < 32 ⌝ ∗ ⌜ Kept (now state) ⌝ }
+    ensures funds { λ r. ⌜ r ≡ available-of (view (now (state .entry))) account ⌝ }
+    ensures bound { λ r. ⌜ natAbs r ≤ 2 ^ 120 ⌝ }
 {
-    state.accounts[account].cash - margin(state, account) as i128 - frozen(state, account) as i128
+    cash(state, account) - margin(state, account) as i128 - frozen(state, account) as i128
 }
 
 // An account's long lots in a contract that no live instruction has taken.

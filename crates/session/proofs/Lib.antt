@@ -1,0 +1,2 @@
+pub mod Cashing
+pub mod Listing
