@@ -9,15 +9,16 @@ use Rattle.std.specs.declared.result.Result.the-variants.{Ok, Err}
 use Rattle.refusals.specs.declared.Refusal.{Refusal}
 use Rattle.ledger.specs.Ledger.{Ledger, view}
 use Rattle.ledger.specs.Calls.{Performs, unless}
+use Rattle.ledger.specs.declared.records.Reply.{Reply}
 use Rattle.ledger.specs.declared.records.State.{State}
 
 -- where it meets a refusal
-pub refuses : {A : Type 0} (before : State) (o : Option Refusal) (x : A) (t : Ledger) (r : Refusal) → o ≡ Some r → Performs (unless o x t) before before (Err r)
-refuses before o x t r e = record { answers = rw e refl; leaves = rw e refl; spares = rw e refl }
+pub refuses : {X : Type 0} (reply : X → Reply) (before : State) (o : Option Refusal) (told : Reply) (t : Ledger) (r : Refusal) → o ≡ Some r → Performs reply (unless o told t) before before (Err r)
+refuses reply before o told t r e = record { answers = rw e refl; leaves = rw e refl; spares = rw e refl }
 
 -- where it meets none
-pub does : {A : Type 0} (before later : State) (o : Option Refusal) (x : A) (t : Ledger) → o ≡ None → view later ≡ t → Performs (unless o x t) before later (Ok x)
-does before later o x t e left = record { answers = rw e refl; leaves = rw e left; spares = rw e tt }
+pub does : {X : Type 0} (reply : X → Reply) (before later : State) (o : Option Refusal) (x : X) (t : Ledger) → o ≡ None → view later ≡ t → Performs reply (unless o (reply x) t) before later (Ok x)
+does reply before later o x t e left = record { answers = rw e refl; leaves = rw e left; spares = rw e tt }
 
 -- a row that was passed: its test failed, and no later row was met
 pub passed : (b : Bool) (r : Refusal) (rest : Option Refusal) → cond b (Some r) rest ≡ None → (b ≡ false) × (rest ≡ None)

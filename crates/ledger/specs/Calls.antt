@@ -6,34 +6,45 @@ use Rattle.std.specs.declared.result.Result.{Result}
 use Rattle.std.specs.declared.result.Result.the-variants.{Ok, Err}
 use Rattle.refusals.specs.declared.Refusal.{Refusal}
 use Rattle.ledger.specs.Ledger.{Ledger, view}
+use Rattle.ledger.specs.declared.records.Reply.{Reply}
+use Rattle.ledger.specs.declared.records.Reply.the-variants.{Done}
 use Rattle.ledger.specs.declared.records.State.{State}
 
--- a call is refused, or done: it answers a value and leaves a ledger
-pub data Outcome (A : Type 0) : Type 0 where
-  refused : Refusal → Outcome A
-  done : A → Ledger → Outcome A
+-- a call is refused, or done: it replies, and leaves a ledger
+pub data Outcome : Type 0 where
+  refused : Refusal → Outcome
+  done : Reply → Ledger → Outcome
 
 -- it is done unless it meets a refusal
-abbrev pub unless : {A : Type 0} → Option Refusal → A → Ledger → Outcome A
-unless (Some r) x t = refused r
-unless None x t = done x t
+abbrev pub unless : Option Refusal → Reply → Ledger → Outcome
+unless (Some r) reply t = refused r
+unless None reply t = done reply t
 
-abbrev pub answer : {A : Type 0} → Outcome A → Result A Refusal
+abbrev pub answer : Outcome → Result Reply Refusal
 answer (refused r) = Err r
-answer (done x t) = Ok x
+answer (done reply t) = Ok reply
 
 -- the ledger afterwards: a refusal alters nothing
-abbrev pub after : {A : Type 0} → Ledger → Outcome A → Ledger
+abbrev pub after : Ledger → Outcome → Ledger
 after s (refused r) = s
-after s (done x t) = t
+after s (done reply t) = t
 
 -- a refusal leaves the very record that it found
-abbrev pub Spared : {A : Type 0} → Outcome A → State → State → Type 0
+abbrev pub Spared : Outcome → State → State → Type 0
 Spared (refused r) before later = later ≡ before
-Spared (done x t) before later = Unit {0}
+Spared (done reply t) before later = Unit {0}
+
+-- how a call's own result reads as a reply
+abbrev pub told-as : {X : Type 0} → (X → Reply) → Result X Refusal → Result Reply Refusal
+told-as reply (Ok x) = Ok (reply x)
+told-as reply (Err r) = Err r
+
+-- a result that tells no more than that the call was carried out
+abbrev pub plainly : Unit {0} → Reply
+plainly x = Done
 
 -- what a call promises: its answer, the ledger that it leaves, and where it refuses the very record that it found
-pub record Performs {A : Type 0} (o : Outcome A) (before later : State) (r : Result A Refusal) : Type 0 where
-  pub answers : r ≡ answer o
+pub record Performs {X : Type 0} (reply : X → Reply) (o : Outcome) (before later : State) (r : Result X Refusal) : Type 0 where
+  pub answers : told-as reply r ≡ answer o
   pub leaves : view later ≡ after (view before) o
   pub spares : Spared o before later

@@ -150,6 +150,12 @@ pub struct State {
     pub draw: Option<OpenDraw>,
 }
 
+// What a call that was carried out tells.
+#[derive(Clone, Copy)]
+pub enum Reply {
+    Done,
+}
+
 pub const NO_LOTS: Holding = Holding { long: 0, short: 0 };
 
 pub const OPENED: Account = Account {

@@ -12,6 +12,7 @@ use Rattle.ledger.specs.Ledger.{Ledger, cash-of, with-cash}
 use Rattle.ledger.specs.Slips.{wrong-slip}
 use Rattle.ledger.specs.Funds.{available-of}
 use Rattle.ledger.specs.Calls.{Outcome, unless}
+use Rattle.ledger.specs.declared.records.Reply.the-variants.{Done}
 use Rattle.ledger.specs.declared.records.Slip.{Slip}
 use Rattle.ledger.specs.declared.records.Stage.the-variants.{Trading}
 use Rattle.session.specs.Limits.{outside}
@@ -30,8 +31,8 @@ deposit-refusal s slip d =
 abbrev pub deposit-effect : Ledger → Deposit → Ledger
 deposit-effect s d = with-cash s (d .account) (cash-of s (d .account) +ℤ pos (d .amount))
 
-unfoldable pub deposited : Ledger → Slip → Deposit → Outcome Unit
-deposited s slip d = unless (deposit-refusal s slip d) tt (deposit-effect s d)
+unfoldable pub deposited : Ledger → Slip → Deposit → Outcome
+deposited s slip d = unless (deposit-refusal s slip d) Done (deposit-effect s d)
 
 -- what is left of the available funds may not be below 0
 abbrev pub withdrawal-refusal : Ledger → Slip → Withdrawal → Option Refusal
@@ -45,5 +46,5 @@ withdrawal-refusal s slip w =
 abbrev pub withdrawal-effect : Ledger → Withdrawal → Ledger
 withdrawal-effect s w = with-cash s (w .account) (cash-of s (w .account) -ℤ pos (w .amount))
 
-unfoldable pub withdrawn : Ledger → Slip → Withdrawal → Outcome Unit
-withdrawn s slip w = unless (withdrawal-refusal s slip w) tt (withdrawal-effect s w)
+unfoldable pub withdrawn : Ledger → Slip → Withdrawal → Outcome
+withdrawn s slip w = unless (withdrawal-refusal s slip w) Done (withdrawal-effect s w)

@@ -15,6 +15,7 @@ use Rattle.ledger.specs.Ledger.{Ledger, future-of, option-of, with-future, with
 use Rattle.ledger.specs.Kept.{future-lot}
 use Rattle.ledger.specs.Slips.{wrong-slip}
 use Rattle.ledger.specs.Calls.{Outcome, unless}
+use Rattle.ledger.specs.declared.records.Reply.the-variants.{Done}
 use Rattle.ledger.specs.declared.records.Slip.{Slip}
 use Rattle.ledger.specs.declared.records.Stage.the-variants.{Trading}
 use Rattle.ledger.specs.declared.records.Contract.{Contract}
@@ -46,8 +47,8 @@ future-contract l rate = record { terms = record { units = l .units; tick = l .t
 abbrev pub future-listing-effect : Ledger → FutureListing → ℕ → Ledger
 future-listing-effect s l rate = with-future s (l .number) (future-contract l rate)
 
-unfoldable pub future-listed : Rule → Ledger → Slip → FutureListing → Outcome Unit
-future-listed rule s slip l = unless (future-listing-refusal s slip l) tt (future-listing-effect s l (rule .future-sum (listed-future l)))
+unfoldable pub future-listed : Rule → Ledger → Slip → FutureListing → Outcome
+future-listed rule s slip l = unless (future-listing-refusal s slip l) Done (future-listing-effect s l (rule .future-sum (listed-future l)))
 
 -- the last day may be today
 abbrev pub option-listing-refusal : Ledger → Slip → OptionListing → Option Refusal
@@ -77,8 +78,8 @@ option-contract l rate = record { terms = record { future = l .future; right = l
 abbrev pub option-listing-effect : Ledger → OptionListing → ℕ → Ledger
 option-listing-effect s l rate = with-option s (l .number) (option-contract l rate)
 
-unfoldable pub option-listed : Rule → Ledger → Slip → OptionListing → Outcome Unit
-option-listed rule s slip l = unless (option-listing-refusal s slip l) tt (option-listing-effect s l (asked-rate rule (future-of s (l .future)) l))
+unfoldable pub option-listed : Rule → Ledger → Slip → OptionListing → Outcome
+option-listed rule s slip l = unless (option-listing-refusal s slip l) Done (option-listing-effect s l (asked-rate rule (future-of s (l .future)) l))
 
 -- a future's listing within the limits, as one that meets no refusal is
 pub record FutureListable (l : FutureListing) : Type 0 where

@@ -1,7 +1,7 @@
 // Cash paid in.
 ghost use mathlib.Core.Path.{_≡_};
 ghost use Prim.Native.Nat.{_<_, _≤_, _^_};
-ghost use Rattle.ledger.specs.Calls.{Performs};
+ghost use Rattle.ledger.specs.Calls.{Performs, plainly};
 ghost use Rattle.ledger.specs.Kept.{Kept};
 ghost use Rattle.ledger.specs.Ledger.{view};
 ghost use Rattle.session.specs.Cash.{deposit-refusal, deposit-effect, deposited};
@@ -51,7 +51,7 @@ pub fn deposit_effect(state: &mut State, order: Deposit)
 
 pub fn deposit(state: &mut State, slip: Slip, order: Deposit) -> Result<(), Refusal>
     requires { ⌜ Kept (now state) ⌝ }
-    ensures performs { λ r. ⌜ Performs (deposited (view (now (state .entry))) slip order) (now (state .entry)) (now (state .exit)) r ⌝ }
+    ensures performs { λ r. ⌜ Performs plainly (deposited (view (now (state .entry))) slip order) (now (state .entry)) (now (state .exit)) r ⌝ }
     ensures kept { λ r. ⌜ Kept (now (state .exit)) ⌝ }
 {
     if let Some(refusal) = deposit_refusal(state, slip, order) {

@@ -1,7 +1,7 @@
 // Listing a future at the margin rate that the rule asks.
 ghost use mathlib.Core.Path.{_≡_};
 ghost use Rattle.margin.specs.Limits.{FutureWithin};
-ghost use Rattle.ledger.specs.Calls.{Performs};
+ghost use Rattle.ledger.specs.Calls.{Performs, plainly};
 ghost use Rattle.ledger.specs.Kept.{Kept};
 ghost use Rattle.ledger.specs.Ledger.{view};
 ghost use Rattle.session.specs.Listings.{future-listing-refusal, future-listing-effect, future-listed, listed-future, FutureListable};
@@ -83,7 +83,7 @@ pub fn list_future<R: MarginRule>(
     order: FutureListing,
 ) -> Result<(), Refusal>
     requires { ⌜ Kept (now state) ⌝ }
-    ensures performs { λ r. ⌜ Performs (future-listed (meaning (now (rule .entry))) (view (now (state .entry))) slip order) (now (state .entry)) (now (state .exit)) r ⌝ }
+    ensures performs { λ r. ⌜ Performs plainly (future-listed (meaning (now (rule .entry))) (view (now (state .entry))) slip order) (now (state .entry)) (now (state .exit)) r ⌝ }
     ensures kept { λ r. ⌜ Kept (now (state .exit)) ⌝ }
 {
     if let Some(refusal) = future_listing_refusal(state, slip, order) {

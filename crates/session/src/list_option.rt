@@ -1,7 +1,7 @@
 // Listing an option at the margin rate that the rule asks.
 ghost use mathlib.Core.Path.{_≡_};
 ghost use Rattle.margin.specs.Limits.{OptionWithin};
-ghost use Rattle.ledger.specs.Calls.{Performs};
+ghost use Rattle.ledger.specs.Calls.{Performs, plainly};
 ghost use Rattle.ledger.specs.Kept.{Kept, FutureKept};
 ghost use Rattle.ledger.specs.Ledger.{view};
 ghost use Rattle.session.specs.Listings.{option-listing-refusal, option-listing-effect, option-listed, listed-option, asked-rate, OptionListable};
@@ -104,7 +104,7 @@ pub fn list_option<R: MarginRule>(
     order: OptionListing,
 ) -> Result<(), Refusal>
     requires { ⌜ Kept (now state) ⌝ }
-    ensures performs { λ r. ⌜ Performs (option-listed (meaning (now (rule .entry))) (view (now (state .entry))) slip order) (now (state .entry)) (now (state .exit)) r ⌝ }
+    ensures performs { λ r. ⌜ Performs plainly (option-listed (meaning (now (rule .entry))) (view (now (state .entry))) slip order) (now (state .entry)) (now (state .exit)) r ⌝ }
     ensures kept { λ r. ⌜ Kept (now (state .exit)) ⌝ }
 {
     if let Some(refusal) = option_listing_refusal(state, slip, order) {

@@ -1,7 +1,7 @@
 // Cash paid out.
 ghost use mathlib.Core.Path.{_≡_};
 ghost use Prim.Native.Nat.{_<_};
-ghost use Rattle.ledger.specs.Calls.{Performs};
+ghost use Rattle.ledger.specs.Calls.{Performs, plainly};
 ghost use Rattle.ledger.specs.Kept.{Kept};
 ghost use Rattle.ledger.specs.Ledger.{view};
 ghost use Rattle.session.specs.Cash.{withdrawal-refusal, withdrawal-effect, withdrawn};
@@ -46,7 +46,7 @@ pub fn withdrawal_effect(state: &mut State, order: Withdrawal)
 
 pub fn withdraw(state: &mut State, slip: Slip, order: Withdrawal) -> Result<(), Refusal>
     requires { ⌜ Kept (now state) ⌝ }
-    ensures performs { λ r. ⌜ Performs (withdrawn (view (now (state .entry))) slip order) (now (state .entry)) (now (state .exit)) r ⌝ }
+    ensures performs { λ r. ⌜ Performs plainly (withdrawn (view (now (state .entry))) slip order) (now (state .entry)) (now (state .exit)) r ⌝ }
     ensures kept { λ r. ⌜ Kept (now (state .exit)) ⌝ }
 {
     if let Some(refusal) = withdrawal_refusal(state, slip, order) {

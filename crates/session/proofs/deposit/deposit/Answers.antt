@@ -1,5 +1,7 @@
 use mathlib.Core.Path.{sym}
 use Rattle.ledger.specs.Ledger.{view}
+use Rattle.ledger.specs.Calls.{plainly}
+use Rattle.ledger.specs.declared.records.Reply.the-variants.{Done}
 use Rattle.ledger.proofs.Keeping.{sound-of}
 use Rattle.ledger.proofs.Performing.{refuses, does}
 use Rattle.session.specs.Cash.{deposited}
@@ -8,7 +10,7 @@ use Rattle.session.proofs.deposit.deposit.Needs as need
 
 pub returns-in-Some : need.returns-in-Some
 unfolding deposited
-returns-in-Some c = record { performs = refuses (c .args .state .now) _ tt _ (c .in-Some .refusal) (sym (c .in-Some .ensures tt)); kept = c .pre }
+returns-in-Some c = record { performs = refuses plainly (c .args .state .now) _ Done _ (c .in-Some .refusal) (sym (c .in-Some .ensures tt)); kept = c .pre }
 
 pub returns : need.returns
 unfolding deposited
@@ -16,6 +18,6 @@ returns c =
     let e = sym (c .in-rest .ensures tt) in
     let left = c .deposit-effect .ensures in
     record {
-      performs = does (c .args .state .now) _ _ tt _ e left;
+      performs = does plainly (c .args .state .now) _ _ tt _ e left;
       kept = rw left (∣ deposit-keeps (view (c .args .state .now)) (c .args .slip) (c .args .order) (sound-of (c .pre)) e ∣₁);
     }

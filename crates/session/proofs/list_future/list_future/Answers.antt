@@ -1,5 +1,7 @@
 use mathlib.Core.Path.{sym, ap, _∙_}
 use Rattle.ledger.specs.Ledger.{view}
+use Rattle.ledger.specs.Calls.{plainly}
+use Rattle.ledger.specs.declared.records.Reply.the-variants.{Done}
 use Rattle.ledger.proofs.Keeping.{sound-of}
 use Rattle.ledger.proofs.Performing.{refuses, does}
 use Rattle.session.specs.Listings.{future-listed, future-listing-effect}
@@ -8,7 +10,7 @@ use Rattle.session.proofs.list_future.list_future.Needs as need
 
 pub returns-in-Some : need.returns-in-Some
 unfolding future-listed
-returns-in-Some g c = record { performs = refuses (c .args .state .now) _ tt _ (c .in-Some .refusal) (sym (c .in-Some .ensures tt)); kept = c .pre }
+returns-in-Some g c = record { performs = refuses plainly (c .args .state .now) _ Done _ (c .in-Some .refusal) (sym (c .in-Some .ensures tt)); kept = c .pre }
 
 pub listed-future-requires : need.listed-future-requires
 listed-future-requires g c κs = future-listable (view (c .args .state .now)) (c .args .slip) (c .args .order) (sym (c .in-rest .ensures tt)) .within
@@ -29,6 +31,6 @@ returns g c =
     let rate = c .future-sum-rate .ensures ∙ ap (rule .future-sum) (c .listed-future .ensures) in
     let left = c .future-listing-effect .ensures ∙ ap (future-listing-effect s (c .args .order)) rate in
     record {
-      performs = does (c .args .state .now) _ _ tt _ e left;
+      performs = does plainly (c .args .state .now) _ _ tt _ e left;
       kept = rw left (∣ future-listing-keeps rule lawful s (c .args .slip) (c .args .order) (sound-of (c .pre)) e ∣₁);
     }

@@ -1,6 +1,8 @@
 use mathlib.Core.Path.{sym, ap, _∙_}
 use native.Mathlib.Omega.{arith}
 use Rattle.ledger.specs.Ledger.{view, future-of}
+use Rattle.ledger.specs.Calls.{plainly}
+use Rattle.ledger.specs.declared.records.Reply.the-variants.{Done}
 use Rattle.ledger.proofs.Keeping.{sound-of}
 use Rattle.ledger.proofs.Performing.{refuses, does}
 use Rattle.session.specs.Listings.{option-listed, option-listing-effect, asked-rate, OptionListable}
@@ -9,7 +11,7 @@ use Rattle.session.proofs.list_option.list_option.Needs as need
 
 pub returns-in-Some : need.returns-in-Some
 unfolding option-listed
-returns-in-Some g c = record { performs = refuses (c .args .state .now) _ tt _ (c .in-Some .refusal) (sym (c .in-Some .ensures tt)); kept = c .pre }
+returns-in-Some g c = record { performs = refuses plainly (c .args .state .now) _ Done _ (c .in-Some .refusal) (sym (c .in-Some .ensures tt)); kept = c .pre }
 
 pub asked-rate-rate-requires : need.asked-rate-rate-requires
 asked-rate-rate-requires g c κs =
@@ -32,6 +34,6 @@ returns g c =
     let rate = c .asked-rate-rate .ensures ∙ ap (λ f. asked-rate rule f (c .args .order)) (c .future-at .ensures) in
     let left = c .option-listing-effect .ensures ∙ ap (option-listing-effect s (c .args .order)) rate in
     record {
-      performs = does (c .args .state .now) _ _ tt _ e left;
+      performs = does plainly (c .args .state .now) _ _ tt _ e left;
       kept = rw left (∣ option-listing-keeps rule lawful s (c .args .slip) (c .args .order) (sound-of (c .pre)) e ∣₁);
     }
