@@ -5,21 +5,22 @@ use mathlib.Core.Bool.{true, false, cond}
 use Prim.Native.Nat.{ℕ, _+_, _-_, _<_, _≤_}
 use native.Mathlib.Omega.{arith}
 use lib.Dec.{ltb}
-use lib.IntN.{ℤ}
+use lib.IntN.{ℤ, _+ℤ_}
 use lib.ListN.{length, getD, set, length-set}
 use lib.Seq.{getD-set-same, getD-set-other}
 use Rattle.std.specs.declared.option.Option.{Option}
 use Rattle.std.specs.declared.option.Option.the-variants.{Some, None}
 use Rattle.std.proofs.shelf.Tests.{cases-eq, cases-lt, lt-ltb, le-ltb}
 use Rattle.ledger.specs.Ledger.{Ledger, no-account, cash-of, holding-of, long-of, short-of, future-of, option-of, future-under, with-accounts, with-cash, with-future, with-option}
-use Rattle.ledger.specs.Funds.{InRange}
+use Rattle.ledger.specs.Funds.{InRange, all-cash}
 use Rattle.ledger.specs.Kept.{FutureSound, FutureKept, Covers, OptionSound, OptionKept, Even, Sound}
 use Rattle.ledger.specs.declared.records.Account.{Account}
 use Rattle.ledger.specs.declared.records.Holding.{Holding}
 use Rattle.ledger.specs.declared.records.Contract.{Contract}
 use Rattle.ledger.specs.declared.records.FutureTerms.{FutureTerms}
 use Rattle.ledger.specs.declared.records.OptionTerms.{OptionTerms}
-use Rattle.ledger.proofs.Totals.{sum-to-same}
+use Rattle.std.proofs.shelf.Signed.{ints}
+use Rattle.ledger.proofs.Totals.{sum-to-same, total-to-changed}
 
 -- a listed option stays sound in another ledger of the same day whose futures read the same
 same-terms : (s t : Ledger) (o : Option (Contract OptionTerms)) → t .day ≡ s .day → ((j : ℕ) → future-of t j ≡ future-of s j) → OptionKept s o → OptionKept t o
@@ -137,3 +138,10 @@ keep-option s k x h least lt sound =
       cash = record { in-range = h .cash .in-range };
       lots = record { balanced = h .lots .balanced };
     }
+
+-- all cash moves by what one account's moves
+pub all-cash-moves : (s : Ledger) (a : ℕ) (d : ℤ) → length (s .accounts) ≡ 32 → a < 32 → all-cash (with-cash s a (cash-of s a +ℤ d)) ≡ all-cash s +ℤ d
+all-cash-moves s a d n lt =
+    let t = with-cash s a (cash-of s a +ℤ d) in
+    let changed = total-to-changed 32 (cash-of s) (cash-of t) a d lt (cash-same s a _ (omega arith)) (λ k other. cash-other s a _ k other) in
+    omega (arith, ints, changed)

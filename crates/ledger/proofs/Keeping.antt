@@ -7,6 +7,7 @@ use native.Mathlib.Bridge.{le-prop}
 use native.Mathlib.Omega.{arith}
 use base.Stored.{coded-set, codedℕ}
 use lib.Dec.{ltb}
+use lib.IntN.{pos}
 use lib.ListN.{getD, replicate, length-replicate, getD-replicate}
 use Rattle.std.specs.declared.option.Option.{Option}
 use Rattle.std.specs.declared.option.Option.the-variants.{Some, None}
@@ -14,9 +15,12 @@ use Rattle.margin.specs.Limits.{FutureWithin, OptionWithin}
 use Rattle.margin.specs.declared.rule.FutureLot.{FutureLot}
 use Rattle.margin.specs.declared.rule.OptionLot.{OptionLot}
 use Rattle.ledger.specs.Sums.{sum-to}
-use Rattle.ledger.specs.Ledger.{Ledger, made, opened, no-account, no-holding, no-request, future-of, option-of, future-under}
+use Rattle.ledger.specs.Ledger.{Ledger, made, cash-of, opened, no-account, no-holding, no-request, future-of, option-of, future-under}
 use Rattle.ledger.specs.Kept.{ShapeKept, FutureSound, FutureKept, Covers, OptionSound, OptionKept, ContractsKept, CashKept, LotsKept, Even, Sound}
-use Rattle.ledger.proofs.Totals.{sum-to-same}
+use Rattle.std.proofs.shelf.Signed.{ints}
+use Rattle.ledger.specs.Funds.{all-cash}
+use Rattle.ledger.specs.declared.records.Account.{Account}
+use Rattle.ledger.proofs.Totals.{sum-to-same, total-to-same, total-to-zero}
 use Rattle.ledger.specs.declared.records.Holding.{Holding}
 use Rattle.ledger.specs.declared.records.Contract.{Contract}
 use Rattle.ledger.specs.declared.records.FutureTerms.{FutureTerms}
@@ -127,3 +131,10 @@ made-sound n = record {
   cash = record { in-range = λ a h. rw (getD-replicate 32 a opened no-account h) (omega arith) };
   lots = record { balanced = λ k h. ap (λ (m : ℕ). m + 0) (sum-to-same 32 _ _ (λ a g. ap (λ (x : Holding). x .long) (empty-at a k g h) ∙ sym (ap (λ (x : Holding). x .short) (empty-at a k g h)))) };
 }
+
+-- a new book has no cash
+pub made-empty : (n : ℕ) → all-cash (made n) ≡ pos 0
+unfolding made
+made-empty n =
+    let none = total-to-same 32 (cash-of (made n)) (λ a. pos 0) (λ a h. ap (λ (x : Account). x .cash) (getD-replicate 32 a opened no-account h)) in
+    omega (arith, ints, none, total-to-zero 32)

@@ -40,3 +40,8 @@ total-to-changed (suc n) f g a d lt at else = elim (cases-eq n a) [
   | inl same ↦ (let last : g n ≡ f n +ℤ d = rw same at in omega (arith, ints, total-to-same n g f (λ k h. else k (λ e. omega arith))))
   | inr other ↦ omega (arith, ints, total-to-changed n f g a d (omega arith) at else, else n other)
 ]
+
+pub total-to-zero : (n : ℕ) → total-to n (λ k. pos 0) ≡ pos 0
+unfolding total-to
+total-to-zero zero = refl
+total-to-zero (suc n) = rw (total-to-zero n) refl
