@@ -1,0 +1,4 @@
+pub mod Cuts
+pub mod FirstWord
+pub mod Named
+pub mod Numbers
