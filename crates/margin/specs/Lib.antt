@@ -5,4 +5,3 @@ pub mod Standard
 pub mod Flat
 pub mod AddOn
 pub mod Making
-pub mod Examples

@@ -1,6 +1,5 @@
 // Margin rules: what a lot of a future, and a short lot of an option, has to be backed by.
 pub mod add_on;
-pub mod examples;
 pub mod flat;
 mod lots;
 pub mod rule;

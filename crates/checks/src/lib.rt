@@ -1,0 +1,11 @@
+// What is checked above the layers: worked examples as theorems about the definitions that the contracts cite, and tests through the public calls.
+pub mod examples;
+
+#[cfg(test)]
+mod cash;
+#[cfg(test)]
+mod listings;
+#[cfg(test)]
+mod margins;
+#[cfg(test)]
+mod runs_of_calls;
