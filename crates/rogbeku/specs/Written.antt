@@ -3,7 +3,7 @@ use Rattle.std.specs.declared.option.Option.{Option}
 use Rattle.std.specs.declared.option.Option.the-variants.{Some, None}
 use Rattle.ledger.specs.Ledger.{Ledger}
 use Rattle.session.specs.declared.orders.Order.{Order}
-use Rattle.script.specs.declared.command.Shown.{Shown}
+use Rattle.words.specs.declared.slip.Shown.{Shown}
 use Rattle.book.specs.declared.calls.Call.{Call}
 
 -- the one that is written before it, else one with the book's own number and present day

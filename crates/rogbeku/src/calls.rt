@@ -9,7 +9,7 @@ use book::calls::Call;
 use ledger::records::Reply;
 use margin::rule::MarginRule;
 use runs::run;
-use script::command::Shown;
+use words::slip::Shown;
 use session::orders::Order;
 use std::alloc::Global;
 use std::io;

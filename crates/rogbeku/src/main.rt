@@ -9,7 +9,7 @@ use play::play;
 use script::reading::Fault;
 use script::reading::Reading;
 use script::reading::script;
-use script::unreadable::UnreadableDisplay;
+use words::unreadable::UnreadableDisplay;
 use std::env;
 use std::error::AnyError;
 use std::fs;

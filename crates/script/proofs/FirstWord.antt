@@ -7,8 +7,8 @@ use denote.Ref.{RefT}
 use lib.ListN.{length}
 use Rattle.std.specs.declared.option.Option.the-variants.{None}
 use Rattle.script.specs.Commands.{after-slip, plain-of, command-of}
-use Rattle.script.specs.Slips.{slip-of}
-use Rattle.script.specs.Words.{bytes}
+use Rattle.words.specs.Slips.{slip-of}
+use Rattle.words.specs.Words.{bytes}
 
 pub no-word : (words : List (RefT (List ℕ))) → length words ≡ 0 → None ≡ command-of (map bytes words)
 no-word [] e = refl

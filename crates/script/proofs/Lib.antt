@@ -1,4 +1,1 @@
-pub mod Cuts
 pub mod FirstWord
-pub mod Named
-pub mod Numbers

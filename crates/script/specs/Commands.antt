@@ -7,18 +7,17 @@ use Rattle.std.specs.declared.option.Option.the-variants.{Some, None}
 use Rattle.session.specs.declared.orders.Order.{Order}
 use Rattle.script.specs.declared.command.Command.{Command}
 use Rattle.script.specs.declared.command.Command.the-variants as say
-use Rattle.script.specs.declared.command.Shown.{Shown}
-use Rattle.script.specs.declared.keyword.Opening.{Opening}
-use Rattle.script.specs.declared.keyword.Opening.the-variants.{Book, Call, Question}
-use Rattle.script.specs.Keywords.{opening-of}
-use Rattle.script.specs.Numbers.{read-number}
+use Rattle.words.specs.declared.slip.Shown.{Shown}
+use Rattle.words.specs.declared.keyword.Opening.{Opening}
+use Rattle.words.specs.declared.keyword.Opening.the-variants.{Book, Call, Question}
+use Rattle.words.specs.Keywords.{opening-of}
 use Rattle.script.specs.Shapes.{order-of, question-of, rule-of}
-use Rattle.script.specs.Slips.{slip-of}
-use Rattle.script.specs.Words.{then}
+use Rattle.words.specs.Slips.{slip-of}
+use Rattle.words.specs.Words.{then, short-number-at}
 
 -- book NUMBER, then the margin rule
 abbrev pub book-of : List (List ℕ) → Option Command
-book-of w = then (read-number (getD w 1 []) 4294967295) (λ n. then (rule-of w) (λ r. Some (say.Book n r)))
+book-of w = then (short-number-at w 1) (λ n. then (rule-of w) (λ r. Some (say.Book n r)))
 
 -- a command with no slip before it
 abbrev pub plain : List (List ℕ) → Opening → Option Command

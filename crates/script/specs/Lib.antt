@@ -1,9 +1,3 @@
 pub mod Commands
-pub mod Cuts
-pub mod Keywords
-pub mod Numbers
 pub mod Places
-pub mod Reasons
 pub mod Shapes
-pub mod Slips
-pub mod Words

@@ -5,8 +5,8 @@ use Rattle.script.specs.declared.command.Command.{Command}
 use Rattle.script.specs.declared.command.Command.the-variants.{Book, Call, Ask}
 use Rattle.script.specs.declared.opening.Start.{Start}
 use Rattle.script.specs.declared.opening.Start.the-variants.{Awaited, Made, Missed}
-use Rattle.script.specs.declared.unreadable.Unreadable.{Unreadable}
-use Rattle.script.specs.declared.unreadable.Unreadable.the-variants.{NoBook, LateBook, SecondBook}
+use Rattle.words.specs.declared.unreadable.Unreadable.{Unreadable}
+use Rattle.words.specs.declared.unreadable.Unreadable.the-variants.{NoBook, LateBook, SecondBook}
 
 -- a book may stand only where it is awaited
 abbrev pub late-book : Start → Option Unreadable

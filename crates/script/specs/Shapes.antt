@@ -4,8 +4,6 @@ use Prim.Native.Nat.{ℕ}
 use lib.ListN.{getD}
 use Rattle.std.specs.declared.option.Option.{Option}
 use Rattle.std.specs.declared.option.Option.the-variants.{Some, None}
-use Rattle.session.specs.declared.orders.Deposit.{Deposit}
-use Rattle.session.specs.declared.orders.Withdrawal.{Withdrawal}
 use Rattle.session.specs.declared.orders.FutureListing.{FutureListing}
 use Rattle.session.specs.declared.orders.OptionListing.{OptionListing}
 use Rattle.session.specs.declared.orders.Order.{Order}
@@ -14,22 +12,22 @@ use Rattle.script.specs.declared.command.RuleName.{RuleName}
 use Rattle.script.specs.declared.command.RuleName.the-variants as name
 use Rattle.script.specs.declared.command.Question.{Question}
 use Rattle.script.specs.declared.command.Question.the-variants as ask
-use Rattle.script.specs.declared.keyword.CallWord.{CallWord}
-use Rattle.script.specs.declared.keyword.CallWord.the-variants.{Deposit as deposit, Withdraw, Future, Option as option}
-use Rattle.script.specs.declared.keyword.QuestionWord.{QuestionWord}
-use Rattle.script.specs.declared.keyword.QuestionWord.the-variants.{Cash, Margin, Frozen, Available, Holding, Contract, DrawLots, DrawCash, Day, Statement}
-use Rattle.script.specs.declared.keyword.RuleWord.{RuleWord}
-use Rattle.script.specs.declared.keyword.RuleWord.the-variants.{Standard, Flat, AddOn}
-use Rattle.script.specs.Keywords.{right-of, style-of, rule-word-of}
-use Rattle.script.specs.Words.{then, number-at, only}
+use Rattle.words.specs.declared.keyword.CallWord.{CallWord}
+use Rattle.words.specs.declared.keyword.CallWord.the-variants.{Deposit, Withdraw, Future, Option as option}
+use Rattle.words.specs.declared.keyword.QuestionWord.{QuestionWord}
+use Rattle.words.specs.declared.keyword.QuestionWord.the-variants.{Cash, Margin, Frozen, Available, Holding, Contract, DrawLots, DrawCash, Day, Statement}
+use Rattle.words.specs.declared.keyword.RuleWord.{RuleWord}
+use Rattle.words.specs.declared.keyword.RuleWord.the-variants.{Standard, Flat, AddOn}
+use Rattle.words.specs.Keywords.{right-of, style-of, rule-word-of}
+use Rattle.words.specs.Words.{then, number-at, only}
 
--- deposit ACCOUNT AMOUNT
-abbrev pub deposit-of : List (List ℕ) → Option Deposit
-deposit-of w = then (number-at w 1) (λ a. then (number-at w 2) (λ m. then (only w 3) (λ _. Some (record { account = a; amount = m }))))
+-- one number and no more
+abbrev pub one-number : List (List ℕ) → Option ℕ
+one-number w = then (number-at w 1) (λ n. then (only w 2) (λ _. Some n))
 
--- withdraw ACCOUNT AMOUNT
-abbrev pub withdrawal-of : List (List ℕ) → Option Withdrawal
-withdrawal-of w = then (number-at w 1) (λ a. then (number-at w 2) (λ m. then (only w 3) (λ _. Some (record { account = a; amount = m }))))
+-- two numbers and no more
+abbrev pub two-numbers : List (List ℕ) → Option (ℕ × ℕ)
+two-numbers w = then (number-at w 1) (λ m. then (number-at w 2) (λ n. then (only w 3) (λ _. Some (m, n))))
 
 -- future NUMBER SIZE TICK RATE PRICE
 abbrev pub future-of : List (List ℕ) → Option FutureListing
@@ -39,10 +37,10 @@ future-of w = then (number-at w 1) (λ n. then (number-at w 2) (λ s. then (numb
 abbrev pub option-of : List (List ℕ) → Option OptionListing
 option-of w = then (number-at w 1) (λ n. then (number-at w 2) (λ f. then (right-of (getD w 3 [])) (λ r. then (style-of (getD w 4 [])) (λ s. then (number-at w 5) (λ k. then (number-at w 6) (λ t. then (number-at w 7) (λ d. then (number-at w 8) (λ p. then (only w 9) (λ _. Some (record { number = n; future = f; right = r; style = s; strike = k; tick = t; «last_day» = d; price = p }))))))))))
 
--- any call, by the word that it opens with
+-- any call: deposit ACCOUNT AMOUNT, withdraw ACCOUNT AMOUNT, or a listing
 abbrev pub order-of : CallWord → List (List ℕ) → Option Order
-order-of deposit w = then (deposit-of w) (λ o. Some (order.Deposit o))
-order-of Withdraw w = then (withdrawal-of w) (λ o. Some (order.Withdraw o))
+order-of Deposit w = then (two-numbers w) (λ p. Some (order.Deposit (record { account = p .0; amount = p .1 })))
+order-of Withdraw w = then (two-numbers w) (λ p. Some (order.Withdraw (record { account = p .0; amount = p .1 })))
 order-of Future w = then (future-of w) (λ o. Some (order.ListFuture o))
 order-of option w = then (option-of w) (λ o. Some (order.ListOption o))
 
@@ -65,27 +63,19 @@ ruled w AddOn = add-on-of w
 abbrev pub rule-of : List (List ℕ) → Option RuleName
 rule-of w = then (rule-word-of (getD w 2 [])) (ruled w)
 
--- the one number that a question is about
-abbrev pub the-one : List (List ℕ) → Option ℕ
-the-one w = then (number-at w 1) (λ n. then (only w 2) (λ _. Some n))
-
--- holding ACCOUNT CONTRACT
-abbrev pub holding-of : List (List ℕ) → Option Question
-holding-of w = then (number-at w 1) (λ a. then (number-at w 2) (λ c. then (only w 3) (λ _. Some (ask.Holding a c))))
-
 -- a question of one word
 abbrev pub alone-of : Question → List (List ℕ) → Option Question
 alone-of question w = then (only w 1) (λ _. Some question)
 
--- any question, by the word that it opens with
+-- any question: about an account, a contract, an account's holding in a contract, or none
 abbrev pub question-of : QuestionWord → List (List ℕ) → Option Question
-question-of Cash w = then (the-one w) (λ n. Some (ask.Cash n))
-question-of Margin w = then (the-one w) (λ n. Some (ask.Margin n))
-question-of Frozen w = then (the-one w) (λ n. Some (ask.Frozen n))
-question-of Available w = then (the-one w) (λ n. Some (ask.Available n))
-question-of Holding w = holding-of w
-question-of Contract w = then (the-one w) (λ n. Some (ask.Contract n))
-question-of DrawLots w = then (the-one w) (λ n. Some (ask.DrawLots n))
+question-of Cash w = then (one-number w) (λ n. Some (ask.Cash n))
+question-of Margin w = then (one-number w) (λ n. Some (ask.Margin n))
+question-of Frozen w = then (one-number w) (λ n. Some (ask.Frozen n))
+question-of Available w = then (one-number w) (λ n. Some (ask.Available n))
+question-of Holding w = then (two-numbers w) (λ p. Some (ask.Holding (p .0) (p .1)))
+question-of Contract w = then (one-number w) (λ n. Some (ask.Contract n))
+question-of DrawLots w = then (one-number w) (λ n. Some (ask.DrawLots n))
 question-of DrawCash w = alone-of ask.DrawCash w
 question-of Day w = alone-of ask.Day w
 question-of Statement w = alone-of ask.Statement w

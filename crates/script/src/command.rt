@@ -1,15 +1,9 @@
 // What a line of a script can say.
 use session::orders::Order;
-
-// The book and the day that a call's slip is shown for, as `@BOOK.DAY` writes them.
-#[derive(Clone, Copy, PartialEq, Eq, Debug)]
-pub struct Shown {
-    pub book: u32,
-    pub day: u32,
-}
+use words::slip::Shown;
 
 // The margin rule that a book is made with; sums in fen.
-#[derive(Clone, Copy, PartialEq, Eq, Debug)]
+#[derive(Clone, Copy)]
 pub enum RuleName {
     Standard,
     Flat(u64),
@@ -17,7 +11,7 @@ pub enum RuleName {
     AddOnFlat { addition: u64, sum: u64 },
 }
 
-#[derive(Clone, Copy, PartialEq, Eq, Debug)]
+#[derive(Clone, Copy)]
 pub enum Question {
     Cash(u64),
     Margin(u64),

@@ -1,12 +1,7 @@
 // The reader of a script: the commands that its lines say, or why a line says none.
 pub mod command;
-pub mod keyword;
 pub mod line;
-pub mod number;
 pub mod opening;
 pub mod parser;
 pub mod reading;
 pub mod shape;
-pub mod slip;
-pub mod unreadable;
-pub mod word;

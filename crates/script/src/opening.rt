@@ -2,7 +2,7 @@
 ghost use mathlib.Core.Path.{_≡_};
 ghost use Rattle.script.specs.Places.{misplaced-of, start-after};
 use crate::command::Command;
-use crate::unreadable::Unreadable;
+use words::unreadable::Unreadable;
 
 // No command yet; the first one made the book; the first one did something else.
 #[derive(Clone, Copy)]

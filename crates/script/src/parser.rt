@@ -2,17 +2,18 @@
 ghost use mathlib.Core.Path.{_≡_};
 ghost use mathlib.Core.List.{map};
 ghost use Rattle.std.specs.Results.{okPart};
-ghost use Rattle.script.specs.Words.{bytes};
+ghost use Rattle.words.specs.Words.{bytes};
 ghost use Rattle.script.specs.Commands.{book-of, plain-of, call-of, command-of};
 use crate::command::Command;
-use crate::unreadable::Unreadable;
-use crate::keyword::Opening;
+use words::keyword::Opening;
+use words::keyword::opens;
 use crate::shape::order;
 use crate::shape::question;
 use crate::shape::rule;
-use crate::slip::slip;
-use crate::word::opening_at;
-use crate::word::short_number_at;
+use words::slip::slip;
+use words::unreadable::Unreadable;
+use words::word::short_number_at;
+use words::word::word_at;
 use session::orders::Order;
 
 // book NUMBER, then the margin rule
@@ -28,7 +29,7 @@ fn book(words: &[&str]) -> Result<Command, Unreadable>
 fn plain_command(words: &[&str]) -> Result<Command, Unreadable>
     ensures { λ r. ⌜ okPart r ≡ plain-of (map bytes (now (words .entry))) ⌝ }
 {
-    match opening_at(words, 0)? {
+    match opens(word_at(words, 0))? {
         Opening::Book => book(words),
         Opening::Call(call) => {
             let order = order(call, words)?;
@@ -42,7 +43,7 @@ fn plain_command(words: &[&str]) -> Result<Command, Unreadable>
 fn call_only(words: &[&str]) -> Result<Order, Unreadable>
     ensures { λ r. ⌜ okPart r ≡ call-of (map bytes (now (words .entry))) ⌝ }
 {
-    match opening_at(words, 0)? {
+    match opens(word_at(words, 0))? {
         Opening::Call(call) => order(call, words),
         Opening::Book | Opening::Question(_) => Err(Unreadable::NoSlipHere),
     }
@@ -59,7 +60,10 @@ pub fn command(words: &[&str]) -> Result<Command, Unreadable>
         None => plain_command(words),
         Some(shown) => {
             let order = call_only(rest)?;
-            Ok(Command::Call { slip: Some(shown), order })
+            Ok(Command::Call {
+                slip: Some(shown),
+                order,
+            })
         }
     }
 }

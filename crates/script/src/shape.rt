@@ -2,43 +2,43 @@
 ghost use mathlib.Core.Path.{_≡_};
 ghost use mathlib.Core.List.{map};
 ghost use Rattle.std.specs.Results.{okPart};
-ghost use Rattle.script.specs.Words.{bytes};
-ghost use Rattle.script.specs.Shapes.{deposit-of, withdrawal-of, future-of, option-of, add-on-of, rule-of, the-one, holding-of, alone-of, question-of, order-of};
+ghost use Rattle.words.specs.Words.{bytes};
+ghost use Rattle.script.specs.Shapes.{one-number, two-numbers, future-of, option-of, order-of, add-on-of, rule-of, alone-of, question-of};
 use crate::command::Question;
 use crate::command::RuleName;
-use crate::unreadable::Unreadable;
-use crate::keyword::CallWord;
-use crate::keyword::QuestionWord;
-use crate::keyword::RuleWord;
-use crate::word::end;
-use crate::word::number_at;
-use crate::word::right_at;
-use crate::word::rule_word_at;
-use crate::word::style_at;
+use words::keyword::CallWord;
+use words::keyword::QuestionWord;
+use words::keyword::RuleWord;
+use words::keyword::right;
+use words::keyword::rule_word;
+use words::keyword::style;
+use words::unreadable::Unreadable;
+use words::word::end;
+use words::word::number_at;
+use words::word::word_at;
 use session::orders::Deposit;
 use session::orders::FutureListing;
 use session::orders::OptionListing;
 use session::orders::Order;
 use session::orders::Withdrawal;
 
-// deposit ACCOUNT AMOUNT
-pub fn deposit(words: &[&str]) -> Result<Deposit, Unreadable>
-    ensures { λ r. ⌜ okPart r ≡ deposit-of (map bytes (now (words .entry))) ⌝ }
+// An account, or a contract.
+fn one(words: &[&str]) -> Result<u64, Unreadable>
+    ensures { λ r. ⌜ okPart r ≡ one-number (map bytes (now (words .entry))) ⌝ }
 {
-    let account = number_at(words, 1)?;
-    let amount = number_at(words, 2)?;
-    end(words, 3)?;
-    Ok(Deposit { account, amount })
+    let number = number_at(words, 1)?;
+    end(words, 2)?;
+    Ok(number)
 }
 
-// withdraw ACCOUNT AMOUNT
-pub fn withdrawal(words: &[&str]) -> Result<Withdrawal, Unreadable>
-    ensures { λ r. ⌜ okPart r ≡ withdrawal-of (map bytes (now (words .entry))) ⌝ }
+// An account, with an amount or a contract.
+fn two(words: &[&str]) -> Result<(u64, u64), Unreadable>
+    ensures { λ r. ⌜ okPart r ≡ two-numbers (map bytes (now (words .entry))) ⌝ }
 {
-    let account = number_at(words, 1)?;
-    let amount = number_at(words, 2)?;
+    let first = number_at(words, 1)?;
+    let second = number_at(words, 2)?;
     end(words, 3)?;
-    Ok(Withdrawal { account, amount })
+    Ok((first, second))
 }
 
 // future NUMBER SIZE TICK RATE PRICE
@@ -66,8 +66,8 @@ pub fn option_listing(words: &[&str]) -> Result<OptionListing, Unreadable>
 {
     let number = number_at(words, 1)?;
     let future = number_at(words, 2)?;
-    let right = right_at(words, 3)?;
-    let style = style_at(words, 4)?;
+    let right = right(word_at(words, 3))?;
+    let style = style(word_at(words, 4))?;
     let strike = number_at(words, 5)?;
     let tick = number_at(words, 6)?;
     let last_day = number_at(words, 7)?;
@@ -85,24 +85,30 @@ pub fn option_listing(words: &[&str]) -> Result<OptionListing, Unreadable>
     })
 }
 
-// Any call, by the word that it opens with.
+// Any call, by the word that it opens with: deposit ACCOUNT AMOUNT, withdraw ACCOUNT AMOUNT, or a listing
 pub fn order(call: CallWord, words: &[&str]) -> Result<Order, Unreadable>
     ensures { λ r. ⌜ okPart r ≡ order-of call (map bytes (now (words .entry))) ⌝ }
 {
-    Ok(match call {
-        CallWord::Deposit => Order::Deposit(deposit(words)?),
-        CallWord::Withdraw => Order::Withdraw(withdrawal(words)?),
-        CallWord::Future => Order::ListFuture(future_listing(words)?),
-        CallWord::Option => Order::ListOption(option_listing(words)?),
-    })
+    match call {
+        CallWord::Deposit => {
+            let (account, amount) = two(words)?;
+            Ok(Order::Deposit(Deposit { account, amount }))
+        }
+        CallWord::Withdraw => {
+            let (account, amount) = two(words)?;
+            Ok(Order::Withdraw(Withdrawal { account, amount }))
+        }
+        CallWord::Future => Ok(Order::ListFuture(future_listing(words)?)),
+        CallWord::Option => Ok(Order::ListOption(option_listing(words)?)),
+    }
 }
 
 // book NUMBER addon A standard, or book NUMBER addon A flat SUM
-pub fn add_on_rule(words: &[&str]) -> Result<RuleName, Unreadable>
+fn add_on_rule(words: &[&str]) -> Result<RuleName, Unreadable>
     ensures { λ r. ⌜ okPart r ≡ add-on-of (map bytes (now (words .entry))) ⌝ }
 {
     let addition = number_at(words, 3)?;
-    match rule_word_at(words, 4)? {
+    match rule_word(word_at(words, 4))? {
         RuleWord::Standard => {
             end(words, 5)?;
             Ok(RuleName::AddOnStandard(addition))
@@ -120,7 +126,7 @@ pub fn add_on_rule(words: &[&str]) -> Result<RuleName, Unreadable>
 pub fn rule(words: &[&str]) -> Result<RuleName, Unreadable>
     ensures { λ r. ⌜ okPart r ≡ rule-of (map bytes (now (words .entry))) ⌝ }
 {
-    match rule_word_at(words, 2)? {
+    match rule_word(word_at(words, 2))? {
         RuleWord::Standard => {
             end(words, 3)?;
             Ok(RuleName::Standard)
@@ -132,25 +138,6 @@ pub fn rule(words: &[&str]) -> Result<RuleName, Unreadable>
         }
         RuleWord::AddOn => add_on_rule(words),
     }
-}
-
-// A question about one account or contract.
-fn about_one(words: &[&str]) -> Result<u64, Unreadable>
-    ensures { λ r. ⌜ okPart r ≡ the-one (map bytes (now (words .entry))) ⌝ }
-{
-    let number = number_at(words, 1)?;
-    end(words, 2)?;
-    Ok(number)
-}
-
-// holding ACCOUNT CONTRACT
-fn holding(words: &[&str]) -> Result<Question, Unreadable>
-    ensures { λ r. ⌜ okPart r ≡ holding-of (map bytes (now (words .entry))) ⌝ }
-{
-    let account = number_at(words, 1)?;
-    let contract = number_at(words, 2)?;
-    end(words, 3)?;
-    Ok(Question::Holding { account, contract })
 }
 
 // A question of one word.
@@ -165,16 +152,19 @@ fn alone(question: Question, words: &[&str]) -> Result<Question, Unreadable>
 pub fn question(question: QuestionWord, words: &[&str]) -> Result<Question, Unreadable>
     ensures { λ r. ⌜ okPart r ≡ question-of question (map bytes (now (words .entry))) ⌝ }
 {
-    Ok(match question {
-        QuestionWord::Cash => Question::Cash(about_one(words)?),
-        QuestionWord::Margin => Question::Margin(about_one(words)?),
-        QuestionWord::Frozen => Question::Frozen(about_one(words)?),
-        QuestionWord::Available => Question::Available(about_one(words)?),
-        QuestionWord::Holding => holding(words)?,
-        QuestionWord::Contract => Question::Contract(about_one(words)?),
-        QuestionWord::DrawLots => Question::DrawLots(about_one(words)?),
-        QuestionWord::DrawCash => alone(Question::DrawCash, words)?,
-        QuestionWord::Day => alone(Question::Day, words)?,
-        QuestionWord::Statement => alone(Question::Statement, words)?,
-    })
+    match question {
+        QuestionWord::Cash => Ok(Question::Cash(one(words)?)),
+        QuestionWord::Margin => Ok(Question::Margin(one(words)?)),
+        QuestionWord::Frozen => Ok(Question::Frozen(one(words)?)),
+        QuestionWord::Available => Ok(Question::Available(one(words)?)),
+        QuestionWord::Holding => {
+            let (account, contract) = two(words)?;
+            Ok(Question::Holding { account, contract })
+        }
+        QuestionWord::Contract => Ok(Question::Contract(one(words)?)),
+        QuestionWord::DrawLots => Ok(Question::DrawLots(one(words)?)),
+        QuestionWord::DrawCash => alone(Question::DrawCash, words),
+        QuestionWord::Day => alone(Question::Day, words),
+        QuestionWord::Statement => alone(Question::Statement, words),
+    }
 }

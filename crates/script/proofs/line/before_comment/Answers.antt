@@ -2,8 +2,8 @@ use mathlib.Core.Path.{sym, ap, _∙_}
 use native.Mathlib.Omega.{arith}
 use Rattle.std.proofs.shelf.Patterns.{split-parts}
 use Rattle.std.proofs.shelf.Results.{cases-at-some, cases-at-none}
-use Rattle.script.specs.Cuts.{before}
-use Rattle.script.proofs.Cuts.{before-mark, before-all}
+use Rattle.words.specs.Cuts.{before}
+use Rattle.words.proofs.Cuts.{before-mark, before-all}
 use Rattle.script.proofs.line.before_comment.Needs as need
 
 pub returns-in-Some : need.returns-in-Some

@@ -6,7 +6,7 @@ use native.Mathlib.Omega.{arith}
 use lib.ListN.{length, getD, drop}
 use borrow.Author.Needs.{needs}
 use Rattle.std.proofs.shelf.Parts.{between-to-end}
-use Rattle.script.proofs.Cuts.{Unmarked, at-mark, before-all, after-none, after-shorter}
+use Rattle.words.proofs.Cuts.{Unmarked, at-mark, before-all, after-none, after-shorter}
 use Rattle.script.proofs.line.first_line.Needs as need
 
 pub returns-then-byte-eq10 : need.returns-then-byte-eq10

@@ -1,6 +1,0 @@
-use Rattle.script.proofs.Named.{unnamed}
-use Rattle.script.specs.Keywords.{styles}
-use Rattle.script.proofs.keyword.style.Needs as need
-
-pub returns-in-rest : need.returns-in-rest
-returns-in-rest c = let n = c .in-rest in unnamed styles (c .args .word .now) (n .not-american, (n .not-european, tt))
