@@ -7,13 +7,11 @@ ghost use Rattle.ledger.specs.Questions.{cash-answer, margin-answer, frozen-ans
 ghost use Rattle.session.specs.Cash.{deposited, withdrawn};
 ghost use Rattle.session.specs.Listings.{future-listed, option-listed};
 use crate::slips::TradingSlip;
+use ledger::making::empty_record;
 use ledger::questions;
 use ledger::questions::Position;
 use ledger::questions::Quote;
-use ledger::records::EMPTY;
 use ledger::records::Holding;
-use ledger::records::OPENED;
-use ledger::records::OptionTable;
 use ledger::records::Stage;
 use ledger::records::State;
 use margin::rule::MarginRule;
@@ -38,16 +36,7 @@ impl<R: MarginRule> Book<R> {
         ensures rule { λ r. ⌜ r .0 .rule ≡ rule ⌝ }
         ensures slip { λ r. ⌜ r .1 ≡ record { number = number; day = 1 } ⌝ }
     {
-        let state = State {
-            number,
-            day: 1,
-            stage: Stage::Trading,
-            accounts: [OPENED; 32],
-            futures: [None; 4],
-            options: OptionTable { rows: [None; 16] },
-            requests: [EMPTY; 256],
-            draw: None,
-        };
+        let state = empty_record(number);
         (Book { rule, state }, TradingSlip::bearing(number, 1))
     }
 
