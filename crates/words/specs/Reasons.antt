@@ -1,6 +1,9 @@
 -- The reasons for which a line cannot be read, in plain words. Assumes nothing.
-use mathlib.Core.List.{List}
+use mathlib.Core.List.{List, [], _∷_}
+use mathlib.Core.Bool.{cond}
 use Prim.Native.Nat.{ℕ}
+use lib.Dec.{eqb}
+use lib.ListN.{length}
 use lib.Chars.{codes}
 use Rattle.words.specs.declared.unreadable.Unreadable.{Unreadable}
 use Rattle.words.specs.declared.unreadable.Unreadable.the-variants.{UnknownWord, MissingWord, ExtraWord, NotNumber, NotSlip, NoSlipHere, NoBook, LateBook, SecondBook, NotAscii}
@@ -16,3 +19,12 @@ reason-of NoBook = codes "no book is made"
 reason-of LateBook = codes "the book is made too late"
 reason-of SecondBook = codes "a second book"
 reason-of NotAscii = codes "not plain text"
+
+-- why a word is no number; a missing one is empty
+abbrev pub unfit-of : List ℕ → Unreadable
+unfit-of word = cond (eqb (length word) 0) MissingWord NotNumber
+
+-- why a word is no keyword; one that begins with @ is meant for a slip
+abbrev pub unknown-of : List ℕ → Unreadable
+unknown-of [] = MissingWord
+unknown-of (b ∷ bs) = cond (eqb b 64) NotSlip UnknownWord

@@ -1,6 +1,7 @@
 // The words that a script's commands are spelt with, in lower case.
 ghost use mathlib.Core.Path.{_≡_};
 ghost use Rattle.std.specs.Results.{okPart};
+ghost use Rattle.words.specs.Reasons.{unknown-of};
 ghost use Rattle.words.specs.Keywords.{opening-of, right-of, style-of, rule-word-of};
 use crate::unreadable::Unreadable;
 use ledger::records::Style;
@@ -45,13 +46,13 @@ pub enum RuleWord {
 }
 
 // Why a word is no keyword; a missing one is empty.
-fn unknown(word: &str) -> Unreadable {
-    if word.is_empty() {
-        Unreadable::MissingWord
-    } else if word.starts_with('@') {
-        Unreadable::NotSlip
-    } else {
-        Unreadable::UnknownWord
+fn unknown(word: &str) -> Unreadable
+    ensures { λ r. ⌜ r ≡ unknown-of (now (word .entry)) ⌝ }
+{
+    match word.as_bytes() {
+        [] => Unreadable::MissingWord,
+        [b'@', ..] => Unreadable::NotSlip,
+        _ => Unreadable::UnknownWord,
     }
 }
 

@@ -3,6 +3,7 @@ ghost use mathlib.Core.Path.{_≡_};
 ghost use mathlib.Core.List.{[], map};
 ghost use lib.ListN.{getD};
 ghost use Rattle.std.specs.Results.{okPart};
+ghost use Rattle.words.specs.Reasons.{unfit-of};
 ghost use Rattle.words.specs.Words.{bytes, short-number-at, number-at, only};
 use crate::number::number;
 use crate::number::short_number;
@@ -19,7 +20,9 @@ pub fn word_at<'a>(words: &[&'a str], place: usize) -> &'a str
 }
 
 // Why a word is no number.
-fn unfit(word: &str) -> Unreadable {
+fn unfit(word: &str) -> Unreadable
+    ensures { λ r. ⌜ r ≡ unfit-of (now (word .entry)) ⌝ }
+{
     if word.is_empty() {
         Unreadable::MissingWord
     } else {
