@@ -67,10 +67,19 @@ fn cash_at_its_ceiling() -> Result<(), Fail> {
         check_eq(paid_in(&mut book, &slip, 3, MOST), Ok(()))?;
     }
     check_eq(book.cash(3), Ok(1_000_000_000_000_000_000))?;
-    check_eq(paid_in(&mut book, &slip, 3, 1), Err(Refusal::BeyondRange(3)))?;
-    check_eq(paid_in(&mut book, &slip, 3, 0), Err(Refusal::OutOfLimits(2)))?;
+    check_eq(
+        paid_in(&mut book, &slip, 3, 1),
+        Err(Refusal::BeyondRange(3)),
+    )?;
+    check_eq(
+        paid_in(&mut book, &slip, 3, 0),
+        Err(Refusal::OutOfLimits(2)),
+    )?;
     check_eq(paid_out(&mut book, &slip, 3, 1), Ok(()))?;
-    check_eq(paid_in(&mut book, &slip, 3, 2), Err(Refusal::BeyondRange(3)))?;
+    check_eq(
+        paid_in(&mut book, &slip, 3, 2),
+        Err(Refusal::BeyondRange(3)),
+    )?;
     check_eq(paid_in(&mut book, &slip, 3, 1), Ok(()))?;
     check_eq(book.cash(3), Ok(1_000_000_000_000_000_000))
 }
@@ -78,7 +87,10 @@ fn cash_at_its_ceiling() -> Result<(), Fail> {
 #[test]
 fn withdrawals_at_their_limits() -> Result<(), Fail> {
     let (mut book, slip) = Book::new(7, Standard);
-    check_eq(paid_out(&mut book, &slip, 0, 1), Err(Refusal::ShortOfFunds(0)))?;
+    check_eq(
+        paid_out(&mut book, &slip, 0, 1),
+        Err(Refusal::ShortOfFunds(0)),
+    )?;
     check_eq(paid_in(&mut book, &slip, 0, 500), Ok(()))?;
     for (account, amount, answer) in [
         (0, 501, Err(Refusal::ShortOfFunds(0))),
@@ -98,8 +110,14 @@ fn withdrawals_at_their_limits() -> Result<(), Fail> {
 fn a_slip_of_another_book() -> Result<(), Fail> {
     let (mut book, slip) = Book::new(7, Standard);
     let (_other, theirs) = Book::new(8, Standard);
-    check_eq(paid_in(&mut book, &theirs, 32, 0), Err(Refusal::WrongSlip(8)))?;
-    check_eq(paid_out(&mut book, &theirs, 0, 1), Err(Refusal::WrongSlip(8)))?;
+    check_eq(
+        paid_in(&mut book, &theirs, 32, 0),
+        Err(Refusal::WrongSlip(8)),
+    )?;
+    check_eq(
+        paid_out(&mut book, &theirs, 0, 1),
+        Err(Refusal::WrongSlip(8)),
+    )?;
     check_eq(paid_in(&mut book, &slip, 0, 1), Ok(()))?;
     check_eq(book.cash(0), Ok(1))
 }

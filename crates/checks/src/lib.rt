@@ -1,8 +1,7 @@
 // What is checked above the layers: worked examples as theorems about the definitions that the contracts cite, and tests through the public calls.
-pub mod examples;
-
 #[cfg(test)]
 mod cash;
+pub mod examples;
 #[cfg(test)]
 mod lines;
 #[cfg(test)]

@@ -1,19 +1,19 @@
 // The lines of a script.
+use ledger::records::Style;
+use margin::rule::Right;
 use script::command::Command;
+use script::command::Question;
+use script::command::RuleName;
 use script::line::Said;
 use script::line::opens_book;
 use script::line::read_line;
-use words::unreadable::Unreadable;
-use script::command::Question;
-use script::command::RuleName;
-use words::slip::Shown;
-use words::unreadable::reason;
-use ledger::records::Style;
-use margin::rule::Right;
 use session::orders::Deposit;
 use session::orders::OptionListing;
 use session::orders::Order;
 use std::test::*;
+use words::slip::Shown;
+use words::unreadable::Unreadable;
+use words::unreadable::reason;
 
 fn said(rt: &LibcRuntime, line: &str) -> Result<Command, Fail> {
     match read_line(rt.alloc(), line.as_bytes())? {

@@ -48,22 +48,100 @@ fn quoted<R: MarginRule>(book: &Book<R>, contract: u64, price: u32, rate: u64) -
 fn futures_at_their_limits() -> Result<(), Fail> {
     let (mut book, slip) = Book::new(7, Standard);
     for (listing, answer) in [
-        (FutureListing { number: 4, units: 0, ..FUTURE }, Err(Refusal::NoSuch(4))),
-        (FutureListing { units: 0, ..FUTURE }, Err(Refusal::OutOfLimits(2))),
-        (FutureListing { units: 1_001, ..FUTURE }, Err(Refusal::OutOfLimits(2))),
-        (FutureListing { tick: 0, ..FUTURE }, Err(Refusal::OutOfLimits(3))),
-        (FutureListing { tick: 100_001, ..FUTURE }, Err(Refusal::OutOfLimits(3))),
-        (FutureListing { ratio: 0, ..FUTURE }, Err(Refusal::OutOfLimits(4))),
-        (FutureListing { ratio: 10_001, ..FUTURE }, Err(Refusal::OutOfLimits(4))),
-        (FutureListing { price: 0, ..FUTURE }, Err(Refusal::OutOfLimits(5))),
-        (FutureListing { price: 2_000_001, ..FUTURE }, Err(Refusal::OutOfLimits(5))),
-        (FutureListing { tick: 1, price: 100_000_000, ..FUTURE }, Err(Refusal::OutOfLimits(5))),
-        (FutureListing { number: 3, units: 1_000, tick: 1, ratio: 10_000, price: 99_999_999 }, Ok(())),
-        (FutureListing { number: 2, units: 1, tick: 1, ratio: 1, price: 1 }, Ok(())),
-        (FutureListing { number: 1, tick: 100_000, ..FUTURE }, Ok(())),
+        (
+            FutureListing {
+                number: 4,
+                units: 0,
+                ..FUTURE
+            },
+            Err(Refusal::NoSuch(4)),
+        ),
+        (
+            FutureListing { units: 0, ..FUTURE },
+            Err(Refusal::OutOfLimits(2)),
+        ),
+        (
+            FutureListing {
+                units: 1_001,
+                ..FUTURE
+            },
+            Err(Refusal::OutOfLimits(2)),
+        ),
+        (
+            FutureListing { tick: 0, ..FUTURE },
+            Err(Refusal::OutOfLimits(3)),
+        ),
+        (
+            FutureListing {
+                tick: 100_001,
+                ..FUTURE
+            },
+            Err(Refusal::OutOfLimits(3)),
+        ),
+        (
+            FutureListing { ratio: 0, ..FUTURE },
+            Err(Refusal::OutOfLimits(4)),
+        ),
+        (
+            FutureListing {
+                ratio: 10_001,
+                ..FUTURE
+            },
+            Err(Refusal::OutOfLimits(4)),
+        ),
+        (
+            FutureListing { price: 0, ..FUTURE },
+            Err(Refusal::OutOfLimits(5)),
+        ),
+        (
+            FutureListing {
+                price: 2_000_001,
+                ..FUTURE
+            },
+            Err(Refusal::OutOfLimits(5)),
+        ),
+        (
+            FutureListing {
+                tick: 1,
+                price: 100_000_000,
+                ..FUTURE
+            },
+            Err(Refusal::OutOfLimits(5)),
+        ),
+        (
+            FutureListing {
+                number: 3,
+                units: 1_000,
+                tick: 1,
+                ratio: 10_000,
+                price: 99_999_999,
+            },
+            Ok(()),
+        ),
+        (
+            FutureListing {
+                number: 2,
+                units: 1,
+                tick: 1,
+                ratio: 1,
+                price: 1,
+            },
+            Ok(()),
+        ),
+        (
+            FutureListing {
+                number: 1,
+                tick: 100_000,
+                ..FUTURE
+            },
+            Ok(()),
+        ),
         (FUTURE, Ok(())),
         (FUTURE, Err(Refusal::Occupied(0))),
-        (FutureListing { units: 0, ..FUTURE }, Err(Refusal::OutOfLimits(2))),
+        (
+            FutureListing { units: 0, ..FUTURE },
+            Err(Refusal::OutOfLimits(2)),
+        ),
     ] {
         check_eq(book.list_future(&slip, listing), answer)?;
     }
@@ -85,23 +163,100 @@ fn with_future<R: MarginRule>(rule: R) -> Result<(Book<R>, TradingSlip), Fail> {
 fn options_at_their_limits() -> Result<(), Fail> {
     let (mut book, slip) = with_future(Standard)?;
     for (listing, answer) in [
-        (OptionListing { number: 3, future: 9, ..CALL }, Err(Refusal::NoSuch(3))),
-        (OptionListing { number: 20, ..CALL }, Err(Refusal::NoSuch(20))),
-        (OptionListing { future: 1, strike: 0, ..CALL }, Err(Refusal::NoSuch(1))),
+        (
+            OptionListing {
+                number: 3,
+                future: 9,
+                ..CALL
+            },
+            Err(Refusal::NoSuch(3)),
+        ),
+        (
+            OptionListing { number: 20, ..CALL },
+            Err(Refusal::NoSuch(20)),
+        ),
+        (
+            OptionListing {
+                future: 1,
+                strike: 0,
+                ..CALL
+            },
+            Err(Refusal::NoSuch(1)),
+        ),
         (OptionListing { future: 4, ..CALL }, Err(Refusal::NoSuch(4))),
-        (OptionListing { strike: 0, ..CALL }, Err(Refusal::OutOfLimits(5))),
-        (OptionListing { strike: 100_000_000, ..CALL }, Err(Refusal::OutOfLimits(5))),
-        (OptionListing { tick: 0, ..CALL }, Err(Refusal::OutOfLimits(6))),
-        (OptionListing { tick: 100_001, ..CALL }, Err(Refusal::OutOfLimits(6))),
-        (OptionListing { last_day: 0, ..CALL }, Err(Refusal::OutOfLimits(7))),
-        (OptionListing { last_day: 1_000_001, ..CALL }, Err(Refusal::OutOfLimits(7))),
-        (OptionListing { price: 0, ..CALL }, Err(Refusal::OutOfLimits(8))),
-        (OptionListing { price: 30_001, ..CALL }, Err(Refusal::OutOfLimits(8))),
-        (OptionListing { price: 100_000_000, ..CALL }, Err(Refusal::OutOfLimits(8))),
+        (
+            OptionListing { strike: 0, ..CALL },
+            Err(Refusal::OutOfLimits(5)),
+        ),
+        (
+            OptionListing {
+                strike: 100_000_000,
+                ..CALL
+            },
+            Err(Refusal::OutOfLimits(5)),
+        ),
+        (
+            OptionListing { tick: 0, ..CALL },
+            Err(Refusal::OutOfLimits(6)),
+        ),
+        (
+            OptionListing {
+                tick: 100_001,
+                ..CALL
+            },
+            Err(Refusal::OutOfLimits(6)),
+        ),
+        (
+            OptionListing {
+                last_day: 0,
+                ..CALL
+            },
+            Err(Refusal::OutOfLimits(7)),
+        ),
+        (
+            OptionListing {
+                last_day: 1_000_001,
+                ..CALL
+            },
+            Err(Refusal::OutOfLimits(7)),
+        ),
+        (
+            OptionListing { price: 0, ..CALL },
+            Err(Refusal::OutOfLimits(8)),
+        ),
+        (
+            OptionListing {
+                price: 30_001,
+                ..CALL
+            },
+            Err(Refusal::OutOfLimits(8)),
+        ),
+        (
+            OptionListing {
+                price: 100_000_000,
+                ..CALL
+            },
+            Err(Refusal::OutOfLimits(8)),
+        ),
         (CALL, Ok(())),
         (CALL, Err(Refusal::Occupied(4))),
-        (OptionListing { last_day: 0, ..CALL }, Err(Refusal::OutOfLimits(7))),
-        (OptionListing { number: 19, strike: 2_400_001, last_day: 1_000_000, price: 30_005, ..CALL }, Ok(())),
+        (
+            OptionListing {
+                last_day: 0,
+                ..CALL
+            },
+            Err(Refusal::OutOfLimits(7)),
+        ),
+        (
+            OptionListing {
+                number: 19,
+                strike: 2_400_001,
+                last_day: 1_000_000,
+                price: 30_005,
+                ..CALL
+            },
+            Ok(()),
+        ),
     ] {
         check_eq(book.list_option(&slip, listing), answer)?;
     }
@@ -113,7 +268,12 @@ fn options_at_their_limits() -> Result<(), Fail> {
 
 #[test]
 fn rates_under_every_rule() -> Result<(), Fail> {
-    let put = OptionListing { number: 5, right: Right::Put, price: 105_000, ..CALL };
+    let put = OptionListing {
+        number: 5,
+        right: Right::Put,
+        price: 105_000,
+        ..CALL
+    };
     let (mut standard, slip) = with_future(Standard)?;
     check_eq(standard.list_option(&slip, put), Ok(()))?;
     quoted(&standard, 5, 105_000, 1_525_000)?;

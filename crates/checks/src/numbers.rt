@@ -1,7 +1,7 @@
 // The numbers of a script.
+use std::test::*;
 use words::number::number;
 use words::number::short_number;
-use std::test::*;
 
 static NUMBERS: [(&str, u64, Option<u64>); 9] = [
     ("0", 9, Some(0)),

@@ -26,9 +26,17 @@ fn answers_in_their_order(rt: LibcRuntime) -> Result<(), Fail> {
     let withdrawal = Call {
         book: 7,
         day: 1,
-        order: Order::Withdraw(Withdrawal { account: 1, amount: 40 }),
+        order: Order::Withdraw(Withdrawal {
+            account: 1,
+            amount: 40,
+        }),
     };
-    let calls = [deposit(7, 1, 100), deposit(8, 1, 100), deposit(7, 2, 100), withdrawal];
+    let calls = [
+        deposit(7, 1, 100),
+        deposit(8, 1, 100),
+        deposit(7, 2, 100),
+        withdrawal,
+    ];
     run(&mut book, &calls, &mut told)?;
     run(&mut book, &[withdrawal, withdrawal], &mut told)?;
     check(told.len() == 6)?;

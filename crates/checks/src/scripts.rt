@@ -3,9 +3,9 @@ use script::reading::Fault;
 use script::reading::Line;
 use script::reading::Reading;
 use script::reading::script;
-use words::unreadable::UnreadableDisplay;
 use std::alloc::Global;
 use std::test::*;
+use words::unreadable::UnreadableDisplay;
 
 // The lines that say a command.
 fn read(heap: Global, lines: Vec<Line>) -> Result<String, Fail> {

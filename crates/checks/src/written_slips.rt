@@ -1,7 +1,7 @@
 // Slips as a script writes them.
+use std::test::*;
 use words::slip::Shown;
 use words::slip::slip;
-use std::test::*;
 
 fn numbers(word: &str) -> Option<(u32, u32)> {
     let shown = slip(word)?;

@@ -105,7 +105,10 @@ pub fn holding(state: &State, account: u64, contract: u64) -> Result<Position, R
     let Some(_) = quote_at(state, contract) else {
         return Err(Refusal::NoSuch(contract));
     };
-    let held = state.accounts[account as usize].holdings.rows[contract as usize];
+    let held = state
+        .accounts[account as usize]
+        .holdings
+        .rows[contract as usize];
     Ok(Position {
         long: held.long,
         short: held.short,

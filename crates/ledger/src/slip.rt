@@ -10,9 +10,8 @@ pub fn same_stage(one: Stage, other: Stage) -> bool
     ensures { λ r. ⌜ r ≡ same-stage one other ⌝ }
 {
     match (one, other) {
-        (Stage::Trading, Stage::Trading) | (Stage::Cut, Stage::Cut) | (Stage::Draw, Stage::Draw) => {
-            true
-        }
+        (Stage::Trading, Stage::Trading) | (Stage::Cut, Stage::Cut) | (Stage::Draw, Stage::Draw) =>
+            { true }
         _ => false,
     }
 }

@@ -8,12 +8,12 @@ use book::calls::Answer;
 use book::calls::Call;
 use ledger::records::Reply;
 use margin::rule::MarginRule;
-use runs::run;
-use words::slip::Shown;
+use runs::run_one;
 use session::orders::Order;
 use std::alloc::Global;
 use std::io;
 use std::io::Write;
+use words::slip::Shown;
 
 // The call with the slip that is written before it, else with the slip of this book and day.
 pub fn written<R: MarginRule>(book: &Book<R>, slip: Option<Shown>, order: Order) -> Call
@@ -56,11 +56,6 @@ pub fn call<R: MarginRule, W: Write>(
     slip: Option<Shown>,
     order: Order,
 ) -> io::Result<bool> {
-    let calls = [written(book, slip, order)];
-    let mut told = Vec::new(heap);
-    run(book, &calls, &mut told)?;
-    match told.pop() {
-        Some(answer) => tell_answer(out, line, answer),
-        None => Ok(false),
-    }
+    let call = written(book, slip, order);
+    tell_answer(out, line, run_one(heap, book, call)?)
 }

@@ -9,7 +9,6 @@ use play::play;
 use script::reading::Fault;
 use script::reading::Reading;
 use script::reading::script;
-use words::unreadable::UnreadableDisplay;
 use std::env;
 use std::error::AnyError;
 use std::fs;
@@ -18,6 +17,7 @@ use std::io::BufReader;
 use std::io::BufWriter;
 use std::io::Read;
 use std::io::Write;
+use words::unreadable::UnreadableDisplay;
 
 // The script, whole.
 fn input(rt: &LibcRuntime) -> io::Result<Vec<u8>> {

@@ -31,7 +31,11 @@ fn tell_position<W: Write>(
     }
 }
 
-fn tell_quote<W: Write>(out: &mut W, line: u64, answer: Result<Quote, Refusal>) -> io::Result<bool> {
+fn tell_quote<W: Write>(
+    out: &mut W,
+    line: u64,
+    answer: Result<Quote, Refusal>,
+) -> io::Result<bool> {
     match answer {
         Ok(Quote { price, rate }) => {
             writeln!(out, "{line} is price {price} rate {rate}")?;
@@ -44,7 +48,11 @@ fn tell_quote<W: Write>(out: &mut W, line: u64, answer: Result<Quote, Refusal>) 
     }
 }
 
-fn tell_lots<W: Write>(out: &mut W, line: u64, answer: Result<Holding, Refusal>) -> io::Result<bool> {
+fn tell_lots<W: Write>(
+    out: &mut W,
+    line: u64,
+    answer: Result<Holding, Refusal>,
+) -> io::Result<bool> {
     match answer {
         Ok(Holding { long, short }) => {
             writeln!(out, "{line} is long {long} short {short}")?;

@@ -46,7 +46,13 @@ fn tell_holdings<R: MarginRule, W: Write>(
     account: u64,
 ) -> io::Result<()> {
     for contract in 0..20u64 {
-        if let Ok(Position { long, short, free: _ }) = book.holding(account, contract)
+        if let Ok(
+            Position {
+                long,
+                short,
+                free: _,
+            },
+        ) = book.holding(account, contract)
             && (long > 0 || short > 0)
         {
             writeln!(out, "    contract {contract} long {long} short {short}")?;
@@ -60,23 +66,32 @@ fn tell_account<R: MarginRule, W: Write>(
     book: &Book<R>,
     account: u64,
 ) -> io::Result<()> {
-    let Ok(Funds {
-        cash,
-        margin,
-        frozen,
-        available,
-    }) = funds_of(book, account)
+    let Ok(
+        Funds {
+            cash,
+            margin,
+            frozen,
+            available,
+        },
+    ) = funds_of(book, account)
     else {
         return Ok(());
     };
     if cash == 0 && !holds_any(book, account) {
         return Ok(());
     }
-    writeln!(out, "  account {account} cash {cash} margin {margin} frozen {frozen} available {available}")?;
+    writeln!(
+        out,
+        "  account {account} cash {cash} margin {margin} frozen {frozen} available {available}"
+    )?;
     tell_holdings(out, book, account)
 }
 
-pub fn statement<R: MarginRule, W: Write>(out: &mut W, line: u64, book: &Book<R>) -> io::Result<()> {
+pub fn statement<R: MarginRule, W: Write>(
+    out: &mut W,
+    line: u64,
+    book: &Book<R>,
+) -> io::Result<()> {
     writeln!(out, "{line} statement")?;
     for account in 0..32u64 {
         tell_account(out, book, account)?;

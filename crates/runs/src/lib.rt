@@ -5,8 +5,9 @@ ghost use Prim.Native.Nat.{ℕ, _+_, _≤_};
 ghost use lib.ListN.{length};
 ghost use Rattle.std.specs.Of.Vec.{vec-items, vec-len, vec-cap};
 ghost use Rattle.std.specs.Results.{Cases};
+ghost use Rattle.ledger.specs.Calls.{answer, after};
 ghost use Rattle.ledger.specs.Ledger.{view, made};
-ghost use Rattle.book.specs.Acts.{Act, act};
+ghost use Rattle.book.specs.Acts.{Act, act, stepped};
 ghost use Rattle.runs.specs.Journal.{reached, answers, journal, carried-out};
 ghost use Rattle.runs.specs.Law.{Law};
 use book::book::Book;
@@ -14,6 +15,7 @@ use book::calls::Answer;
 use book::calls::Call;
 use margin::rule::MarginRule;
 use std::alloc::AllocError;
+use std::alloc::Global;
 
 // Carries out the calls and adds their answers to a list that has room for them.
 fn carry_out<R: MarginRule>(book: &mut Book<R>, calls: &[Call], told: &mut Vec<Answer>)
@@ -44,4 +46,22 @@ pub fn run<R: MarginRule>(
     told.reserve(calls.len())?;
     carry_out(book, calls, told);
     Ok(())
+}
+
+// A run of one call, and its answer. For want of memory it is not carried out.
+pub fn run_one<R: MarginRule>(
+    heap: Global,
+    book: &mut Book<R>,
+    call: Call,
+) -> Result<Answer, AllocError>
+    ensures answers { λ r. ⌜ Cases r (λ told. told ≡ answer (stepped (R·MarginRule .meaning (now (book .entry) .rule)) (view (now (book .entry) .state)) (act call))) (λ _. Unit {0}) ⌝ }
+    ensures leaves { λ r. ⌜ Cases r (λ _. view (now (book .exit) .state) ≡ after (view (now (book .entry) .state)) (stepped (R·MarginRule .meaning (now (book .entry) .rule)) (view (now (book .entry) .state)) (act call))) (λ _. now (book .exit) .state ≡ now (book .entry) .state) ⌝ }
+    ensures rule { λ r. ⌜ now (book .exit) .rule ≡ now (book .entry) .rule ⌝ }
+{
+    let mut told = Vec::new(heap);
+    run(book, &[call], &mut told)?;
+    match told.pop() {
+        Some(answer) => Ok(answer),
+        None => unreachable(),
+    }
 }

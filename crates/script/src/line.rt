@@ -5,10 +5,10 @@ ghost use lib.ListN.{length};
 ghost use Rattle.words.specs.Cuts.{before, after};
 use crate::command::Command;
 use crate::parser::command;
-use words::unreadable::Unreadable;
 use std::alloc::AllocError;
 use std::alloc::Global;
 use std::str::from_utf8;
+use words::unreadable::Unreadable;
 
 // What a line says.
 #[derive(Clone, Copy)]

@@ -5,16 +5,16 @@ ghost use Rattle.std.specs.Results.{okPart};
 ghost use Rattle.words.specs.Words.{bytes};
 ghost use Rattle.script.specs.Commands.{book-of, plain-of, call-of, command-of};
 use crate::command::Command;
-use words::keyword::Opening;
-use words::keyword::opens;
 use crate::shape::order;
 use crate::shape::question;
 use crate::shape::rule;
+use session::orders::Order;
+use words::keyword::Opening;
+use words::keyword::opens;
 use words::slip::slip;
 use words::unreadable::Unreadable;
 use words::word::short_number_at;
 use words::word::word_at;
-use session::orders::Order;
 
 // book NUMBER, then the margin rule
 fn book(words: &[&str]) -> Result<Command, Unreadable>

@@ -7,9 +7,9 @@ use crate::line::read_line;
 use crate::opening::Start;
 use crate::opening::begun;
 use crate::opening::misplaced;
-use words::unreadable::Unreadable;
 use std::alloc::AllocError;
 use std::alloc::Global;
+use words::unreadable::Unreadable;
 
 // A command and the number of its line; every line counts, from 1.
 #[derive(Clone, Copy)]

@@ -6,6 +6,11 @@ ghost use Rattle.words.specs.Words.{bytes};
 ghost use Rattle.script.specs.Shapes.{one-number, two-numbers, future-of, option-of, order-of, add-on-of, rule-of, alone-of, question-of};
 use crate::command::Question;
 use crate::command::RuleName;
+use session::orders::Deposit;
+use session::orders::FutureListing;
+use session::orders::OptionListing;
+use session::orders::Order;
+use session::orders::Withdrawal;
 use words::keyword::CallWord;
 use words::keyword::QuestionWord;
 use words::keyword::RuleWord;
@@ -16,11 +21,6 @@ use words::unreadable::Unreadable;
 use words::word::end;
 use words::word::number_at;
 use words::word::word_at;
-use session::orders::Deposit;
-use session::orders::FutureListing;
-use session::orders::OptionListing;
-use session::orders::Order;
-use session::orders::Withdrawal;
 
 // An account, or a contract.
 fn one(words: &[&str]) -> Result<u64, Unreadable>
