@@ -1,4 +1,6 @@
 // What is checked above the layers: worked examples as theorems about the definitions that the contracts cite, and tests through the public calls.
+#![tactic(auto)]
+
 #[cfg(test)]
 mod cash;
 pub mod examples;

@@ -1,4 +1,6 @@
 // What a book holds, what it stands for, and what is read off it. The calls that change it are in the layers above.
+#![tactic(auto)]
+
 pub mod funds;
 pub mod making;
 pub mod questions;

@@ -1,4 +1,6 @@
 // Margin rules: what a lot of a future, and a short lot of an option, has to be backed by.
+#![tactic(auto)]
+
 pub mod add_on;
 pub mod flat;
 mod lots;

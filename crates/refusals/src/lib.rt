@@ -1,4 +1,6 @@
 // The refusals: every reason for which a call is turned down, with the number, the layer and the place that it is told by.
+#![tactic(auto)]
+
 ghost use Rattle.std.specs.Prelude.{◌≡◌};
 ghost use Rattle.refusals.specs.Told.{told};
 

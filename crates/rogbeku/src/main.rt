@@ -1,4 +1,6 @@
 // The program: reads a script from the file that is named, or from standard input, runs one book through it and prints what each command answered.
+#![tactic(auto)]
+
 mod answers;
 mod calls;
 mod play;

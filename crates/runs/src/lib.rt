@@ -1,4 +1,6 @@
 // Runs: a list of written calls, carried out one after another, and the law that holds after every run.
+#![tactic(auto)]
+
 ghost use Rattle.std.specs.Prelude.{◌≡◌, ℕ, ◌+◌, ◌≤◌, List, ◌++◌, map, length, IfOk, vec_len, vec_capacity, MatchResult, OnErr};
 ghost use Rattle.ledger.specs.Calls.{answer, after};
 ghost use Rattle.ledger.specs.Ledger.{view, made};

@@ -1,4 +1,6 @@
 // The reader of a script: the commands that its lines say, or why a line says none.
+#![tactic(auto)]
+
 pub mod command;
 pub mod line;
 pub mod opening;
