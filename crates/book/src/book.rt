@@ -53,7 +53,7 @@ impl<R: MarginRule> Book<R> {
 
     // Lists a future.
     pub fn list_future(&mut self, slip: &TradingSlip, order: FutureListing) -> Result<(), Refusal>
-        ensures performs { Performs plainly (future_listed (meaning self.old.rule) (view self.old.state) (shown slip.now) order) self.old.state self.new.state result }
+        ensures performs { Performs plainly (future_listed (R.meaning self.old.rule) (view self.old.state) (shown slip.now) order) self.old.state self.new.state result }
         ensures rule { self.new.rule ≡ self.old.rule }
     {
         session::list_future::list_future(&mut self.state, &self.rule, slip.shown(), order)
@@ -61,7 +61,7 @@ impl<R: MarginRule> Book<R> {
 
     // Lists an option on a listed future.
     pub fn list_option(&mut self, slip: &TradingSlip, order: OptionListing) -> Result<(), Refusal>
-        ensures performs { Performs plainly (option_listed (meaning self.old.rule) (view self.old.state) (shown slip.now) order) self.old.state self.new.state result }
+        ensures performs { Performs plainly (option_listed (R.meaning self.old.rule) (view self.old.state) (shown slip.now) order) self.old.state self.new.state result }
         ensures rule { self.new.rule ≡ self.old.rule }
     {
         session::list_option::list_option(&mut self.state, &self.rule, slip.shown(), order)

@@ -77,7 +77,7 @@ pub fn list_future<R: MarginRule>(
     order: FutureListing,
 ) -> Result<(), Refusal>
     requires { Kept state.old }
-    ensures performs { Performs plainly (future_listed (meaning rule.now) (view state.old) slip order) state.old state.new result }
+    ensures performs { Performs plainly (future_listed (R.meaning rule.now) (view state.old) slip order) state.old state.new result }
     ensures kept { Kept state.new }
 {
     if let Some(refusal) = future_listing_refusal(state, slip, order) {

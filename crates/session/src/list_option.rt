@@ -51,7 +51,7 @@ pub fn asked_rate<R: MarginRule>(
     order: OptionListing,
 ) -> u64
     requires { (FutureKept future) × (OptionWithin (listed_option order)) }
-    ensures { result ≡ asked_rate (meaning rule.now) future order }
+    ensures { result ≡ asked_rate (R.meaning rule.now) future order }
 {
     let Some(listed) = future else {
         return 0;
@@ -96,7 +96,7 @@ pub fn list_option<R: MarginRule>(
     order: OptionListing,
 ) -> Result<(), Refusal>
     requires { Kept state.old }
-    ensures performs { Performs plainly (option_listed (meaning rule.now) (view state.old) slip order) state.old state.new result }
+    ensures performs { Performs plainly (option_listed (R.meaning rule.now) (view state.old) slip order) state.old state.new result }
     ensures kept { Kept state.new }
 {
     if let Some(refusal) = option_listing_refusal(state, slip, order) {

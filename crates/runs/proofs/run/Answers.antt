@@ -6,14 +6,14 @@ use Rattle.runs.specs.Journal.{reached, answers}
 use Rattle.runs.proofs.Runs.{law}
 use Rattle.runs.proofs.run.Goals as goal
 
-pub returns-in-err-reserve : goal.returns-in-err-reserve
-returns-in-err-reserve g c =
+pub returns-in_err-reserve : goal.returns-in_err-reserve
+returns-in_err-reserve g c =
     let rule = g.R.MarginRule.meaning c.args.book.now.rule in
     let lawful = g.met.R.MarginRule.lawful c.args.book.now.rule in
     let p = err_from_is_err_and c.from-residual.result c.from-residual.ensures.1 in
     rw p.1 (record {
       leaves = refl;
-      answers = c.in-err-reserve.ensures.items ∙ sym (append-nil (vec_items c.args.told.now));
+      answers = c.in_err-reserve.ensures.items ∙ sym (append-nil (vec_items c.args.told.now));
       rule = refl;
       spares = refl;
       law = λ n before from. law rule lawful n before [] _ _ from refl;
@@ -26,7 +26,7 @@ returns g c =
     let did = c.carry_out.ensures in
     record {
       leaves = did.leaves;
-      answers = did.answers ∙ ap (λ xs. xs ++ answers rule (view c.args.book.now.state) (map act c.args.calls.now)) c.in-ok-reserve.ensures.items;
+      answers = did.answers ∙ ap (λ xs. xs ++ answers rule (view c.args.book.now.state) (map act c.args.calls.now)) c.in_ok-reserve.ensures.items;
       rule = did.rule;
       spares = tt;
       law = λ n before from. law rule lawful n before (map act c.args.calls.now) _ _ from did.leaves;

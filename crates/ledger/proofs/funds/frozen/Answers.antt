@@ -8,7 +8,7 @@ pub loop-request-preserved : goal.loop-request-preserved
 loop-request-preserved c =
     let more = sum_by_more (funds_frozen_by (view c.args.state.now) c.args.account) c.args.state.now.requests c.loop-request.request-index no_request (omega arith) in
     let before = c.loop-request.invariant in
-    let one = c.funds-frozen-by-total.ensures in
+    let one = c.funds_frozen_by-total.ensures in
     (omega (arith, more, before.0, one.frozen), omega (arith, before.1, one.bound))
 
 pub returns : goal.returns

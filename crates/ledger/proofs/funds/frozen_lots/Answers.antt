@@ -9,7 +9,7 @@ loop-request-preserved c =
     let more = sum_by_more (lots_frozen_by c.args.account c.args.option) c.args.state.now.requests c.loop-request.request-index no_request (omega arith) in
     let before = c.loop-request.invariant in
     let one = c.lots_frozen_by.ensures in
-    (omega (arith, more, before.0, one), omega (arith, before.1, c.lots_frozen_by.type-inv))
+    (omega (arith, more, before.0, one), omega (arith, before.1, c.lots_frozen_by.type_inv))
 
 pub returns : goal.returns
 returns c =

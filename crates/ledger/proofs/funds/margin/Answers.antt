@@ -12,5 +12,5 @@ loop-contract-preserved c =
     let s = view c.args.state.now in
     let more = sum_to_more c.loop-contract.contract (λ k. contract_margin s k (holding_of s c.args.account k)) in
     let before = c.loop-contract.invariant in
-    let one = c.contract-margin-total.ensures in
+    let one = c.contract_margin-total.ensures in
     (omega (arith, more, before.0, one.margin), omega (arith, before.1, one.bound))

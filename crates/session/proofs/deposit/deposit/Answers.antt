@@ -15,7 +15,7 @@ returns-in-Some c = record { performs = refuses plainly c.args.state.now _ Done 
 pub returns : goal.returns
 unfolding deposited
 returns c =
-    let e = sym c.in-default.ensures in
+    let e = sym c.in_default.ensures in
     let left = c.deposit_effect.ensures in
     record {
       performs = does plainly c.args.state.now _ _ tt _ e left;

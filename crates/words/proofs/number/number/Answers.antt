@@ -8,17 +8,17 @@ use Rattle.words.proofs.number.number.Goals as goal
 
 pub returns-in-Ok : goal.returns-in-Ok
 returns-in-Ok c =
-    let plain = not_from_Decides _ (starts_char 43 c.args.word.now _ c.starts-with.ensures.cases (omega arith) (omega arith)) c.if-starts-with.false in
+    let plain = not_from_Decides _ (starts_char 43 c.args.word.now _ c.starts_with.ensures.cases (omega arith) (omega arith)) c.if-starts_with.false in
     let read = OkIff-at_ok _ _ _ _ (parse_plain own 64 c.args.word.now _ c.parse.ensures.value.0 plain) c.in-Ok.is in
     taken _ _ _ read.0 read.1 c.if-value-most.true
 
-pub returns-in-default : goal.returns-in-default
-returns-in-default c =
-    let plain = not_from_Decides _ (starts_char 43 c.args.word.now _ c.starts-with.ensures.cases (omega arith) (omega arith)) c.if-starts-with.false in
+pub returns-in_default : goal.returns-in_default
+returns-in_default c =
+    let plain = not_from_Decides _ (starts_char 43 c.args.word.now _ c.starts_with.ensures.cases (omega arith) (omega arith)) c.if-starts_with.false in
     let read = OkIff-at_ok _ _ _ _ (parse_plain own 64 c.args.word.now _ c.parse.ensures.value.0 plain) c.in-Ok.is in
     above c.args.word.now _ _ read.1 c.if-value-most.false
 
-pub returns-in-default·2 : goal.returns-in-default·2
-returns-in-default·2 c =
-    let plain = not_from_Decides _ (starts_char 43 c.args.word.now _ c.starts-with.ensures.cases (omega arith) (omega arith)) c.if-starts-with.false in
-    no_numeral _ _ (omega arith) (parse_plain own {E = ℕ} 64 c.args.word.now (Err 0) c.in-default.ensures.value.0 plain)
+pub returns-in_default-2 : goal.returns-in_default-2
+returns-in_default-2 c =
+    let plain = not_from_Decides _ (starts_char 43 c.args.word.now _ c.starts_with.ensures.cases (omega arith) (omega arith)) c.if-starts_with.false in
+    no_numeral _ _ (omega arith) (parse_plain own {E = ℕ} 64 c.args.word.now (Err 0) c.in_default.ensures.value.0 plain)

@@ -4,8 +4,8 @@ use Rattle.std.proofs.lemmas.Option.{MatchOption-at_some, MatchOption-at_none}
 use Rattle.words.proofs.Cuts.{no_sign, halves}
 use Rattle.words.proofs.slip.parts.Goals as goal
 
-pub returns-in-err-strip-prefix : goal.returns-in-err-strip-prefix
-returns-in-err-strip-prefix c = rw c.from-residual.ensures (no_sign _ (MatchOption-at_none _ _ c.in-err-strip-prefix.was (strip_prefix_char 64 _ _ c.strip-prefix.ensures.cases (omega arith))))
+pub returns-in_err-strip_prefix : goal.returns-in_err-strip_prefix
+returns-in_err-strip_prefix c = rw c.from_residual.ensures (no_sign _ (MatchOption-at_none _ _ c.in_err-strip_prefix.was (strip_prefix_char 64 _ _ c.strip_prefix.ensures.cases (omega arith))))
 
 pub returns : goal.returns
-returns c = halves _ _ _ (MatchOption-at_some _ _ _ c.in-ok-strip-prefix.was (strip_prefix_char 64 _ _ c.strip-prefix.ensures.cases (omega arith))) (split_parts 46 _ _ c.split-once.ensures.cases (omega arith))
+returns c = halves _ _ _ (MatchOption-at_some _ _ _ c.in_ok-strip_prefix.was (strip_prefix_char 64 _ _ c.strip_prefix.ensures.cases (omega arith))) (split_parts 46 _ _ c.split_once.ensures.cases (omega arith))
