@@ -10,7 +10,7 @@ pub returns-in_err-reserve : goal.returns-in_err-reserve
 returns-in_err-reserve g c =
     let rule = g.R.MarginRule.meaning c.args.book.now.rule in
     let lawful = g.met.R.MarginRule.lawful c.args.book.now.rule in
-    let p = err_from_is_err_and c.from-residual.result c.from-residual.ensures.1 in
+    let p = err_from_is_err_and c.from_residual.result c.from_residual.ensures.1 in
     rw p.1 (record {
       leaves = refl;
       answers = c.in_err-reserve.ensures.items ∙ sym (append-nil (vec_items c.args.told.now));
