@@ -1,9 +1,9 @@
 -- What each setter changes, what it leaves, and that it keeps the invariant. Assumes nothing.
-use Rattle.std.proofs.Common.{◌≡◌, ℕ, ◌+◌, ◌-◌, ◌<◌, ◌≤◌, true, false, cond, ltb, length, get_or, set, ℤ, ◌+ℤ◌, Some, None, Option, sym, refl, ap, ◌∙◌, inl, inr, arith, length-set, get_or-set_other, get_or-set_same}
+use Rattle.std.proofs.Common.{◌≡◌, ℕ, ◌-◌, ◌<◌, ◌≤◌, cond, ltb, length, get_or, ℤ, ◌+ℤ◌, Some, None, Option, refl, ap, inl, inr, arith, length-set, get_or-set_other, get_or-set_same}
 use Rattle.std.proofs.lemmas.Bool.{cases_eq, cases_lt, lt-ltb, le-ltb}
-use Rattle.ledger.specs.Ledger.{Ledger, no_account, cash_of, holding_of, long_of, short_of, future_of, option_of, future_under, with_accounts, with_cash, with_future, with_option}
+use Rattle.ledger.specs.Ledger.{Ledger, no_account, cash_of, holding_of, long_of, short_of, future_of, option_of, future_under, with_cash, with_future, with_option}
 use Rattle.ledger.specs.Funds.{InRange, all_cash}
-use Rattle.ledger.specs.Kept.{FutureSound, FutureKept, Covers, OptionSound, OptionKept, Even, Sound}
+use Rattle.ledger.specs.Kept.{FutureSound, Covers, OptionSound, OptionKept, Even, Sound}
 use Rattle.ledger.specs.declared.records.Account.{Account}
 use Rattle.ledger.specs.declared.records.Holding.{Holding}
 use Rattle.ledger.specs.declared.records.Contract.{Contract}

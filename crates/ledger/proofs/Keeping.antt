@@ -7,9 +7,8 @@ use lib.ListN.{length-replicate, get_or-replicate}
 use Rattle.margin.specs.Limits.{FutureWithin, OptionWithin}
 use Rattle.margin.specs.declared.rule.FutureLot.{FutureLot}
 use Rattle.margin.specs.declared.rule.OptionLot.{OptionLot}
-use Rattle.ledger.specs.Sums.{sum_to}
 use Rattle.ledger.specs.Ledger.{Ledger, made, cash_of, opened, no_account, no_holding, no_request, future_of, option_of, future_under}
-use Rattle.ledger.specs.Kept.{ShapeKept, FutureSound, FutureKept, Covers, OptionSound, OptionKept, ContractsKept, CashKept, LotsKept, Even, Sound}
+use Rattle.ledger.specs.Kept.{ShapeKept, FutureKept, Covers, OptionKept, ContractsKept, CashKept, LotsKept, Sound}
 use Rattle.std.proofs.lemmas.Int.{ints}
 use Rattle.ledger.specs.Funds.{all_cash}
 use Rattle.ledger.specs.declared.records.Account.{Account}

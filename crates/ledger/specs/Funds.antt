@@ -3,8 +3,6 @@ use Rattle.std.specs.Prelude.{ℕ, ◌+◌, ◌-◌, ◌*◌, ◌^◌, ◌≤◌
 use Rattle.ledger.specs.Sums.{sum_to, total_to}
 use Rattle.ledger.specs.Ledger.{Ledger, cash_of, holding_of, long_of, future_of, option_of, future_under, draw_cash}
 use Rattle.ledger.specs.declared.records.Contract.{Contract}
-use Rattle.ledger.specs.declared.records.FutureTerms.{FutureTerms}
-use Rattle.ledger.specs.declared.records.OptionTerms.{OptionTerms}
 use Rattle.ledger.specs.declared.records.Holding.{Holding}
 use Rattle.ledger.specs.declared.records.Request.{Request}
 use Rattle.ledger.specs.declared.records.Status.{Status}

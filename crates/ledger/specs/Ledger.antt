@@ -1,5 +1,5 @@
 -- What a book stands for, how the code's record is read as one, and the readers and setters that every result goes through. Assumes nothing.
-use Rattle.std.specs.Prelude.{◌≡◌, ℕ, ◌-◌, cond, List, [], ◌∷◌, get_or, replicate, ℤ, pos, ◌+ℤ◌, Some, None, Option, nat_lt, slice_index_or, slice_set}
+use Rattle.std.specs.Prelude.{ℕ, ◌-◌, cond, List, [], get_or, replicate, ℤ, pos, Some, None, Option, nat_lt, slice_index_or, slice_set}
 use Rattle.ledger.specs.declared.records.Holding.{Holding}
 use Rattle.ledger.specs.declared.records.Account.{Account}
 use Rattle.ledger.specs.declared.records.Contract.{Contract}

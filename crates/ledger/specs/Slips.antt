@@ -1,5 +1,5 @@
 -- Which slips a call takes. Assumes nothing.
-use Rattle.std.specs.Prelude.{ℕ, Bool, true, false, not, ◌||◌, ◌==◌}
+use Rattle.std.specs.Prelude.{Bool, true, false, not, ◌||◌, ◌==◌}
 use Rattle.ledger.specs.Ledger.{Ledger}
 use Rattle.ledger.specs.declared.records.Slip.{Slip}
 use Rattle.ledger.specs.declared.records.Stage.{Stage}

@@ -1,12 +1,10 @@
 -- The law, after every list of calls. Assumes nothing.
-use Rattle.std.proofs.Common.{◌≡◌, ℕ, ◌+◌, ◌<◌, List, [], ◌∷◌, ◌++◌, map, length, get_or, take, pos, Result, sym, refl, ap, ◌∙◌, arith}
+use Rattle.std.proofs.Common.{◌≡◌, ℕ, ◌+◌, ◌<◌, List, [], ◌∷◌, ◌++◌, map, length, get_or, take, sym, refl, ap, ◌∙◌}
 use mathlib.Core.List.{map-append}
 use Rattle.std.proofs.lemmas.List.{take_more}
-use Rattle.refusals.specs.declared.Refusal.{Refusal}
 use Rattle.margin.specs.Rules.{Rule, Lawful}
-use Rattle.ledger.specs.Ledger.{Ledger, made, cash_of}
+use Rattle.ledger.specs.Ledger.{Ledger, made}
 use Rattle.ledger.specs.Calls.{answer, after}
-use Rattle.ledger.specs.declared.records.Reply.{Reply}
 use Rattle.ledger.proofs.Keeping.{made_sound, made_empty}
 use Rattle.book.specs.Acts.{Act, stepped}
 use Rattle.runs.specs.Journal.{reached, answers, journal, journal_from, noted}

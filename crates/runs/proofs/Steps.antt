@@ -1,12 +1,12 @@
 -- What one call does to the book and to the journal. Assumes nothing.
-use Rattle.std.proofs.Common.{◌≡◌, ℕ, ◌+◌, ◌*◌, ◌<◌, ◌≤◌, true, false, cond, eqb, ltb, List, [], ◌∷◌, length, ℤ, pos, ◌+ℤ◌, ◌-ℤ◌, neg_ℤ, Some, None, Option, sym, refl, ap, ◌∙◌, inl, inr, mul-le-mul_left, mul-zero, arith}
+use Rattle.std.proofs.Common.{◌≡◌, ℕ, ◌*◌, ◌<◌, ◌≤◌, true, false, cond, eqb, List, ◌∷◌, pos, ◌-ℤ◌, neg_ℤ, Some, None, Option, sym, refl, inl, inr, mul-le-mul_left, mul-zero, arith}
 use Rattle.std.proofs.lemmas.Int.{ints}
 use Rattle.std.proofs.lemmas.Bool.{cases_eq, cases_lt, eq-eqb, ne_eqb, lt-ltb, le-ltb}
 use Rattle.std.proofs.lemmas.Bool.Decides.{nat_tests}
 use Rattle.refusals.specs.declared.Refusal.{Refusal}
 use Rattle.margin.specs.Rules.{Rule, Lawful}
-use Rattle.ledger.specs.Ledger.{Ledger, cash_of, short_of, holding_of, future_of, option_of, future_under, with_cash, with_future, with_option}
-use Rattle.ledger.specs.Funds.{all_cash, margin_of, contract_margin, rate_of}
+use Rattle.ledger.specs.Ledger.{Ledger, short_of, holding_of, future_of, option_of, with_future, with_option}
+use Rattle.ledger.specs.Funds.{all_cash, contract_margin, rate_of}
 use Rattle.ledger.specs.Kept.{Sound, OptionKept, Covers}
 use Rattle.ledger.specs.Calls.{after}
 use Rattle.ledger.specs.declared.records.Holding.{Holding}
@@ -26,7 +26,7 @@ use Rattle.session.proofs.Listing.{future_listable, future_listing_keeps, option
 use Rattle.ledger.specs.declared.records.Slip.{Slip}
 use Rattle.book.specs.Acts.{Act, depositing, withdrawing, listing_future, listing_option, stepped}
 use Rattle.runs.specs.Journal.{noted}
-use Rattle.runs.specs.Law.{Law, Bare, deposits, withdrawals, future_listing, option_listing, past, standing, units_of, lot_cost, buying_back}
+use Rattle.runs.specs.Law.{Law, deposits, withdrawals, future_listing, option_listing, past, standing, units_of, lot_cost}
 
 -- the ledger agrees with a future's listing in the journal
 abbrev FutureAgrees : Option FutureListing → Option (Contract FutureTerms) → Type 0

@@ -1,1 +1,4 @@
+pub mod BookWord
 pub mod FirstWord
+pub mod Saying
+pub mod Spaces

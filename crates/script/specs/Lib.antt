@@ -1,3 +1,5 @@
 pub mod Commands
+pub mod Lines
 pub mod Places
+pub mod Readings
 pub mod Shapes

@@ -1,6 +1,9 @@
 // The lines of a script, and the words of a line.
-ghost use Rattle.std.specs.Prelude.{◌≡◌, ◌<◌, length};
+ghost use Rattle.std.specs.Prelude.{◌≡◌, ◌<◌, map, length, IfOk};
 ghost use Rattle.words.specs.Cuts.{before, after};
+ghost use Rattle.words.specs.Words.{bytes};
+ghost use Rattle.script.specs.Lines.{words_of, ends_word_of, opens_book_of};
+ghost use Rattle.script.specs.Readings.{Says};
 
 use crate::command::Command;
 use crate::parser::command;
@@ -41,7 +44,9 @@ pub fn before_comment(line: &str) -> &str
 }
 
 // The words of a line: what stands between spaces, up to its comment.
-pub fn words<'a>(heap: Global, line: &'a str) -> Result<Vec<&'a str>, AllocError> {
+pub fn words<'a>(heap: Global, line: &'a str) -> Result<Vec<&'a str>, AllocError>
+    ensures { IfOk result (λ found. map bytes found.items ≡ words_of line.now) }
+{
     let mut found = Vec::new(heap);
     for word in before_comment(line).split(' ') {
         if !word.is_empty() {
@@ -51,20 +56,34 @@ pub fn words<'a>(heap: Global, line: &'a str) -> Result<Vec<&'a str>, AllocError
     Ok(found)
 }
 
-// Whether the first word of a line is `book`, whatever follows it.
-pub fn opens_book(line: &[u8]) -> bool {
-    let mut rest = line;
-    while let [b' ', after @ ..] = rest {
-        rest = after;
-    }
+// Whether a word that stands before `rest` ends there.
+fn ends_word(rest: &[u8]) -> bool
+    ensures { result ≡ ends_word_of rest.now }
+{
     match rest {
-        b"book" | [b'b', b'o', b'o', b'k', b' ' | b'#', ..] => true,
+        [] | [b' ' | b'#', ..] => true,
         _ => false,
     }
 }
 
+// Whether the first word of a line is `book`, whatever follows it.
+pub fn opens_book(line: &[u8]) -> bool
+    ensures { result ≡ opens_book_of line.now }
+{
+    let mut rest = line;
+    while let Some(after) = rest.strip_prefix(b" ") {
+        rest = after;
+    }
+    match rest.strip_prefix(b"book") {
+        Some(tail) => ends_word(tail),
+        None => false,
+    }
+}
+
 // A line, which holds no line feed.
-pub fn read_line(heap: Global, line: &[u8]) -> Result<Said, AllocError> {
+pub fn read_line(heap: Global, line: &[u8]) -> Result<Said, AllocError>
+    ensures { IfOk result (λ said. Says line.now said) }
+{
     if !line.is_ascii() {
         return Ok(Said::Unreadable(Unreadable::NotAscii));
     }

@@ -1,4 +1,7 @@
 // A whole script, which is read before anything of it is carried out.
+ghost use Rattle.std.specs.Prelude.{◌≡◌, IfOk, OnOk};
+ghost use Rattle.script.specs.Readings.{told_first_of, read_by, taken, lacks_book_of, Tells, ScriptSays};
+
 use crate::command::Command;
 use crate::line::{Said, first_line, opens_book, read_line};
 use crate::opening::{Start, begun, misplaced};
@@ -35,7 +38,9 @@ struct Reader {
 }
 
 // Whether line 1 is told already.
-fn told_first(faults: &[Fault]) -> bool {
+fn told_first(faults: &[Fault]) -> bool
+    ensures { result ≡ told_first_of faults.now }
+{
     match faults.first() {
         Some(fault) => fault.line == 1,
         None => false,
@@ -44,7 +49,9 @@ fn told_first(faults: &[Fault]) -> bool {
 
 impl Reader {
     // Takes in what a line says. A `book` line that cannot be read is told once: the book is not told as missing too.
-    fn take(&mut self, number: u64, said: Said, is_book: bool) -> Result<(), AllocError> {
+    fn take(&mut self, number: u64, said: Said, is_book: bool) -> Result<(), AllocError>
+        ensures { OnOk result (read_by self.new ≡ taken number said is_book (read_by self.old)) }
+    {
         match said {
             Said::Nothing => {}
             Said::Command(command) => {
@@ -64,11 +71,21 @@ impl Reader {
         Ok(())
     }
 
-    // Where no command was read, the book is missing at line 1, unless that line is told already.
-    fn end(mut self) -> Result<Reading, AllocError> {
-        if let Start::Awaited = self.start
-            && !told_first(&self.faults)
-        {
+    // Whether the book is missing: no command was read. It is told at line 1, unless that line is told already.
+    fn lacks_book(&self) -> bool
+        ensures { result ≡ lacks_book_of self.now.start self.now.faults.items }
+    {
+        match self.start {
+            Start::Awaited => !told_first(&self.faults),
+            Start::Made | Start::Missed => false,
+        }
+    }
+
+    // All that was read; a missing book is the first fault.
+    fn end(mut self) -> Result<Reading, AllocError>
+        ensures { IfOk result (λ reading. Tells (read_by self) reading) }
+    {
+        if self.lacks_book() {
             self.faults.insert(
                 0,
                 Fault {
@@ -91,7 +108,9 @@ impl Reader {
 }
 
 // Reads a script; any bytes may be handed in.
-pub fn script(heap: Global, text: &[u8]) -> Result<Reading, AllocError> {
+pub fn script(heap: Global, text: &[u8]) -> Result<Reading, AllocError>
+    ensures { IfOk result (λ reading. ScriptSays text.now reading) }
+{
     let mut reader = Reader {
         start: Start::Awaited,
         lines: Vec::new(heap),

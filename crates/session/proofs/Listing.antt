@@ -1,10 +1,10 @@
 -- What a listing that meets no refusal tells, and that it keeps the invariant under every lawful margin rule. Assumes nothing.
-use Rattle.std.proofs.Common.{◌≡◌, ℕ, ◌*◌, ◌^◌, ◌<◌, ◌≤◌, true, false, not, leb, is_some, Some, None, Option, sym, refl, arith}
+use Rattle.std.proofs.Common.{◌≡◌, ℕ, ◌^◌, ◌<◌, ◌≤◌, false, not, leb, is_some, Some, None, Option, refl, arith}
 use Rattle.std.proofs.lemmas.Bool.Decides.{nat_tests}
-use Rattle.margin.specs.Limits.{FutureWithin, OptionWithin}
+use Rattle.margin.specs.Limits.{OptionWithin}
 use Rattle.margin.specs.Rules.{Rule, Lawful}
-use Rattle.ledger.specs.Ledger.{Ledger, future_of, option_of}
-use Rattle.ledger.specs.Kept.{Sound, FutureKept, FutureSound, OptionSound, Covers, future_lot}
+use Rattle.ledger.specs.Ledger.{Ledger, future_of}
+use Rattle.ledger.specs.Kept.{Sound, FutureKept, Covers, future_lot}
 use Rattle.ledger.specs.declared.records.Slip.{Slip}
 use Rattle.ledger.specs.declared.records.Contract.{Contract}
 use Rattle.ledger.specs.declared.records.FutureTerms.{FutureTerms}

@@ -1,5 +1,5 @@
 -- Deposits and withdrawals: the rows in their order, and what is done. Assumes nothing.
-use Rattle.std.specs.Prelude.{ℕ, ◌^◌, cond, pos, ◌+ℤ◌, ◌-ℤ◌, Some, None, Option, int_lt, nat_le}
+use Rattle.std.specs.Prelude.{◌^◌, cond, pos, ◌+ℤ◌, ◌-ℤ◌, Some, None, Option, int_lt, nat_le}
 use Rattle.refusals.specs.declared.Refusal.{Refusal}
 use Rattle.refusals.specs.declared.Refusal.TheVariants.{WrongSlip, NoSuch, OutOfLimits, ShortOfFunds, BeyondRange}
 use Rattle.ledger.specs.Ledger.{Ledger, cash_of, with_cash}

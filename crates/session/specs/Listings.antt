@@ -1,5 +1,5 @@
 -- Listings: the rows in their order, and what is done. Assumes nothing.
-use Rattle.std.specs.Prelude.{ℕ, ◌<◌, ◌≤◌, Bool, cond, not, ◌||◌, is_some, Some, None, Option, nat_le}
+use Rattle.std.specs.Prelude.{ℕ, ◌<◌, ◌≤◌, cond, not, is_some, Some, None, Option, nat_le}
 use Rattle.refusals.specs.declared.Refusal.{Refusal}
 use Rattle.refusals.specs.declared.Refusal.TheVariants.{WrongSlip, NoSuch, OutOfLimits, Occupied}
 use Rattle.margin.specs.Limits.{FutureWithin, OptionWithin}

@@ -1,4 +1,4 @@
-use Rattle.std.proofs.Common.{◌≡◌, List, [], ◌∷◌, ◌++◌, map, length, get_or, take, vec_items, Result, sym, refl, ap, ◌∙◌, append_assoc, arith, take_all}
+use Rattle.std.proofs.Common.{[], ◌∷◌, ◌++◌, map, get_or, take, vec_items, Result, sym, ap, ◌∙◌, append_assoc, arith, take_all}
 use Rattle.refusals.specs.declared.Refusal.{Refusal}
 use Rattle.ledger.specs.Ledger.{Ledger, view}
 use Rattle.ledger.specs.Calls.{answer, after}

@@ -1,4 +1,4 @@
-use Rattle.std.proofs.Common.{◌≡◌, ◌^◌, ◌<◌, ◌≤◌, length, sum_by, ap, ◌∙◌, arith, take_all, rules}
+use Rattle.std.proofs.Common.{sum_by, ap, ◌∙◌, arith, take_all}
 use Rattle.std.proofs.lemmas.List.Sums.{sum_by_more}
 use Rattle.ledger.specs.Ledger.{view, no_request}
 use Rattle.ledger.specs.Funds.{funds_frozen_by}

@@ -1,10 +1,10 @@
 use Rattle.std.proofs.Common.{sym, ap, ◌∙◌, arith}
-use Rattle.ledger.specs.Ledger.{view, future_of}
+use Rattle.ledger.specs.Ledger.{view}
 use Rattle.ledger.specs.Calls.{plainly}
 use Rattle.ledger.specs.declared.records.Reply.TheVariants.{Done}
 use Rattle.ledger.proofs.Keeping.{sound_of}
 use Rattle.ledger.proofs.Performing.{refuses, does}
-use Rattle.session.specs.Listings.{option_listed, option_listing_effect, asked_rate, OptionListable}
+use Rattle.session.specs.Listings.{option_listed, option_listing_effect, asked_rate}
 use Rattle.session.proofs.Listing.{option_rows, option_listable, option_listing_keeps}
 use Rattle.session.proofs.list_option.list_option.Goals as goal
 
