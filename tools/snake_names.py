@@ -6,7 +6,8 @@ usage: python3 tools/snake_names.py [--dry]     at the top of the repository, on
 A name is taken where crates/*/specs/*.antt or crates/*/proofs/*.antt declares it: a definition or lemma at the margin, a field or a constructor indented
 below a record or a data type. It is then respelled wherever it stands as a whole word, in .antt and .rt files and in the edits of must-fail/, but not inside
 a string. Names that the checker makes (goals, in the folders of proofs/) and names of the library keep their hyphens, but a step of a proof that is named
-after a function of src/ is respelled as that function, as the checker now names it. Stops where two names would become one.
+after a function of src/ is respelled as that function, as the checker now names it. Stops where a name is the library's too, or would become one that a
+file declaring it also declares.
 """
 
 import os
