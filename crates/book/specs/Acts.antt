@@ -2,12 +2,13 @@
 use Rattle.std.specs.Prelude.{◌≡◌, Result}
 use Rattle.refusals.specs.declared.Refusal.{Refusal}
 use Rattle.margin.specs.Rules.{Rule}
-use Rattle.ledger.specs.Ledger.{Ledger, view}
+use Rattle.ledger.specs.Ledger.{Ledger}
+use Rattle.ledger.specs.View.{view}
 use Rattle.ledger.specs.Calls.{Outcome, answer, after, Spared}
 use Rattle.ledger.specs.declared.records.Reply.{Reply}
 use Rattle.ledger.specs.declared.records.Slip.{Slip}
 use Rattle.ledger.specs.declared.records.Stage.TheVariants.{Trading}
-use Rattle.ledger.specs.declared.records.State.{State}
+use Rattle.ledger.specs.declared.state.State.{State}
 use Rattle.session.specs.Cash.{deposited, withdrawn}
 use Rattle.session.specs.Listings.{future_listed, option_listed}
 use Rattle.session.specs.declared.orders.Deposit.{Deposit}

@@ -1,27 +1,27 @@
 ghost use Rattle.std.specs.Prelude.{◌≡◌};
 ghost use Rattle.book.specs.Slips.{shown};
 ghost use Rattle.ledger.specs.Calls.{Performs, plainly};
-ghost use Rattle.ledger.specs.Kept.{Kept};
-ghost use Rattle.ledger.specs.Ledger.{view, made, draw_cash};
+ghost use Rattle.ledger.specs.Ledger.{made, draw_cash};
 ghost use Rattle.ledger.specs.Questions.{cash_answer, margin_answer, frozen_answer, available_answer, contract_answer, holding_answer, draw_lots_answer};
+ghost use Rattle.ledger.specs.View.{view};
 ghost use Rattle.session.specs.Cash.{deposited, withdrawn};
 ghost use Rattle.session.specs.Listings.{future_listed, option_listed};
 
 use crate::slips::TradingSlip;
-use ledger::making::empty_record;
-use ledger::questions;
+use kinds::terms::Holding;
+use ledger::account::AccountNumber;
 use ledger::questions::{Position, Quote};
-use ledger::records::{Holding, Stage, State};
+use ledger::records::Stage;
+use ledger::state::State;
 use margin::rule::MarginRule;
 use refusals::Refusal;
 use session::orders::{Deposit, FutureListing, OptionListing, Withdrawal};
 
-// A clearing book with the margin rule that it keeps. What it keeps true of its record is in its type.
+// A clearing book with the margin rule that it keeps.
 #[derive(Drop)]
 pub struct Book<R: MarginRule> {
     rule: R,
     state: State,
-    ghost kept: { Kept state },
 }
 
 impl<R: MarginRule> Book<R> {
@@ -31,7 +31,7 @@ impl<R: MarginRule> Book<R> {
         ensures rule { result.0.rule ≡ rule }
         ensures slip { result.1 ≡ record { number = number; day = 1 } }
     {
-        let state = empty_record(number);
+        let state = State::new(number);
         (Book { rule, state }, TradingSlip::bearing(number, 1))
     }
 
@@ -88,48 +88,49 @@ impl<R: MarginRule> Book<R> {
     pub fn cash(&self, account: u64) -> Result<i128, Refusal>
         ensures { result ≡ cash_answer (view self.now.state) account }
     {
-        questions::cash(&self.state, account)
+        Ok(self.state.cash(AccountNumber::try_from(account)?))
     }
 
     pub fn margin(&self, account: u64) -> Result<u128, Refusal>
         ensures { result ≡ margin_answer (view self.now.state) account }
     {
-        questions::margin(&self.state, account)
+        Ok(self.state.margin(AccountNumber::try_from(account)?))
     }
 
     pub fn frozen(&self, account: u64) -> Result<u128, Refusal>
         ensures { result ≡ frozen_answer (view self.now.state) account }
     {
-        questions::frozen(&self.state, account)
+        Ok(self.state.frozen(AccountNumber::try_from(account)?))
     }
 
     pub fn available(&self, account: u64) -> Result<i128, Refusal>
         ensures { result ≡ available_answer (view self.now.state) account }
     {
-        questions::available(&self.state, account)
+        Ok(self.state.available(AccountNumber::try_from(account)?))
     }
 
     pub fn holding(&self, account: u64, contract: u64) -> Result<Position, Refusal>
         ensures { result ≡ holding_answer (view self.now.state) account contract }
     {
-        questions::holding(&self.state, account, contract)
+        self.state
+            .position(AccountNumber::try_from(account)?, contract)
     }
 
     pub fn contract(&self, contract: u64) -> Result<Quote, Refusal>
         ensures { result ≡ contract_answer (view self.now.state) contract }
     {
-        questions::contract(&self.state, contract)
+        self.state.contract(contract)
     }
 
     pub fn draw_lots(&self, contract: u64) -> Result<Holding, Refusal>
         ensures { result ≡ draw_lots_answer (view self.now.state) contract }
     {
-        questions::draw_lots(&self.state, contract)
+        self.state.draw_lots(contract)
     }
 
     pub fn draw_cash(&self) -> i128
         ensures { result ≡ draw_cash (view self.now.state) }
     {
-        questions::draw_cash(&self.state)
+        self.state.draw_cash()
     }
 }

@@ -1,7 +1,6 @@
 // Written calls: any values, and a slip that bears any numbers.
 ghost use Rattle.std.specs.Prelude.{◌≡◌};
-ghost use Rattle.ledger.specs.Calls.{told_as, plainly};
-ghost use Rattle.ledger.specs.Ledger.{view};
+ghost use Rattle.ledger.specs.View.{view};
 ghost use Rattle.book.specs.Acts.{act, stepped, Performed};
 
 use crate::book::Book;
@@ -22,16 +21,6 @@ pub struct Call {
 // The answer to a written call.
 pub type Answer = Result<Reply, Refusal>;
 
-// The answer of a call that tells no more than that it was carried out.
-fn plain(res: Result<(), Refusal>) -> Answer
-    ensures { result ≡ told_as plainly res }
-{
-    match res {
-        Ok(()) => Ok(Reply::Done),
-        Err(refusal) => Err(refusal),
-    }
-}
-
 impl<R: MarginRule> Book<R> {
     // Carries out one written call.
     pub fn perform(&mut self, call: &Call) -> Answer
@@ -40,10 +29,11 @@ impl<R: MarginRule> Book<R> {
     {
         let slip = TradingSlip::bearing(call.book, call.day);
         match call.order {
-            Order::Deposit(order) => plain(self.deposit(&slip, order)),
-            Order::Withdraw(order) => plain(self.withdraw(&slip, order)),
-            Order::ListFuture(order) => plain(self.list_future(&slip, order)),
-            Order::ListOption(order) => plain(self.list_option(&slip, order)),
+            Order::Deposit(order) => self.deposit(&slip, order)?,
+            Order::Withdraw(order) => self.withdraw(&slip, order)?,
+            Order::ListFuture(order) => self.list_future(&slip, order)?,
+            Order::ListOption(order) => self.list_option(&slip, order)?,
         }
+        Ok(Reply::Done)
     }
 }

@@ -5,10 +5,10 @@ use Rattle.ledger.specs.Ledger.{Ledger, no_account, cash_of, holding_of, long_of
 use Rattle.ledger.specs.Funds.{InRange, all_cash}
 use Rattle.ledger.specs.Kept.{FutureSound, Covers, OptionSound, OptionKept, Even, Sound}
 use Rattle.ledger.specs.declared.records.Account.{Account}
-use Rattle.ledger.specs.declared.records.Holding.{Holding}
+use Rattle.kinds.specs.declared.terms.Holding.{Holding}
 use Rattle.ledger.specs.declared.records.Contract.{Contract}
-use Rattle.ledger.specs.declared.records.FutureTerms.{FutureTerms}
-use Rattle.ledger.specs.declared.records.OptionTerms.{OptionTerms}
+use Rattle.kinds.specs.declared.terms.FutureTerms.{FutureTerms}
+use Rattle.kinds.specs.declared.terms.OptionTerms.{OptionTerms}
 use Rattle.std.proofs.lemmas.Int.{ints}
 use Rattle.ledger.proofs.Totals.{sum_to_same, total_to_changed}
 

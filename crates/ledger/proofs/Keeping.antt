@@ -7,16 +7,17 @@ use lib.ListN.{length-replicate, get_or-replicate}
 use Rattle.margin.specs.Limits.{FutureWithin, OptionWithin}
 use Rattle.margin.specs.declared.rule.FutureLot.{FutureLot}
 use Rattle.margin.specs.declared.rule.OptionLot.{OptionLot}
-use Rattle.ledger.specs.Ledger.{Ledger, made, cash_of, opened, no_account, no_holding, no_request, future_of, option_of, future_under}
+use Rattle.ledger.specs.Ledger.{Ledger, made, cash_of, opened, no_account, no_holding, future_of, option_of, future_under}
 use Rattle.ledger.specs.Kept.{ShapeKept, FutureKept, Covers, OptionKept, ContractsKept, CashKept, LotsKept, Sound}
 use Rattle.std.proofs.lemmas.Int.{ints}
 use Rattle.ledger.specs.Funds.{all_cash}
 use Rattle.ledger.specs.declared.records.Account.{Account}
+use Rattle.ledger.specs.declared.records.Request.{Request}
 use Rattle.ledger.proofs.Totals.{sum_to_same, total_to_same, total_to_zero}
-use Rattle.ledger.specs.declared.records.Holding.{Holding}
+use Rattle.kinds.specs.declared.terms.Holding.{Holding}
 use Rattle.ledger.specs.declared.records.Contract.{Contract}
-use Rattle.ledger.specs.declared.records.FutureTerms.{FutureTerms}
-use Rattle.ledger.specs.declared.records.OptionTerms.{OptionTerms}
+use Rattle.kinds.specs.declared.terms.FutureTerms.{FutureTerms}
+use Rattle.kinds.specs.declared.terms.OptionTerms.{OptionTerms}
 
 shape_prop : (s : Ledger) → IsProp (ShapeKept s)
 shape_prop s p q = λ i. record {
@@ -111,7 +112,7 @@ made_sound n = record {
     holdings = λ a h. rw (get_or-replicate 32 a opened no_account h) (length-replicate 20 no_holding);
     futures = length-replicate {A = Option (Contract FutureTerms)} 4 None;
     options = length-replicate {A = Option (Contract OptionTerms)} 16 None;
-    requests = length-replicate 256 no_request;
+    requests = length-replicate {A = Option Request} 256 None;
   };
   contracts = record {
     futures = λ k h. elim (ltb k 4) as (λ b. FutureKept (cond b (get_or (replicate 4 None) k None) None)) [ true ↦ rw (none_at 4 k) tt | false ↦ tt ];

@@ -1,4 +1,3 @@
 pub mod Totals
 pub mod Keeping
 pub mod Changes
-pub mod Performing

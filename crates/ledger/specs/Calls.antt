@@ -1,10 +1,11 @@
 -- What a call comes to, and the one shape of every call's promise. Assumes nothing.
 use Rattle.std.specs.Prelude.{◌≡◌, Some, None, Ok, Err, Option, Result}
 use Rattle.refusals.specs.declared.Refusal.{Refusal}
-use Rattle.ledger.specs.Ledger.{Ledger, view}
+use Rattle.ledger.specs.Ledger.{Ledger}
+use Rattle.ledger.specs.View.{view}
 use Rattle.ledger.specs.declared.records.Reply.{Reply}
 use Rattle.ledger.specs.declared.records.Reply.TheVariants.{Done}
-use Rattle.ledger.specs.declared.records.State.{State}
+use Rattle.ledger.specs.declared.state.State.{State}
 
 -- a call is refused, or done: it replies, and leaves a ledger
 pub data Outcome : Type 0 where

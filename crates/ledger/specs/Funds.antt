@@ -3,10 +3,8 @@ use Rattle.std.specs.Prelude.{ℕ, ◌+◌, ◌-◌, ◌*◌, ◌^◌, ◌≤◌
 use Rattle.ledger.specs.Sums.{sum_to, total_to}
 use Rattle.ledger.specs.Ledger.{Ledger, cash_of, holding_of, long_of, future_of, option_of, future_under, draw_cash}
 use Rattle.ledger.specs.declared.records.Contract.{Contract}
-use Rattle.ledger.specs.declared.records.Holding.{Holding}
+use Rattle.kinds.specs.declared.terms.Holding.{Holding}
 use Rattle.ledger.specs.declared.records.Request.{Request}
-use Rattle.ledger.specs.declared.records.Status.{Status}
-use Rattle.ledger.specs.declared.records.Status.TheVariants.{Unused, Live}
 use Rattle.ledger.specs.declared.records.Wish.{Wish}
 use Rattle.ledger.specs.declared.records.Wish.TheVariants.{Exercise, Abandon}
 use Rattle.ledger.specs.declared.records.Channel.{Channel}
@@ -31,10 +29,6 @@ contract_margin s k h = cond (nat_lt k 4) (future_margin (rate_of (future_of s k
 abbrev pub margin_of : Ledger → ℕ → ℕ
 margin_of s a = sum_to 20 (λ k. contract_margin s k (holding_of s a k))
 
-abbrev pub is_live : Status → Bool
-is_live Live = true
-is_live Unused = false
-
 abbrev pub is_instruction : Channel → Bool
 is_instruction Instruction = true
 is_instruction Service = false
@@ -45,15 +39,17 @@ is_exercise Abandon = false
 
 -- a live instruction of this account
 abbrev pub instructs : ℕ → Request → Bool
-instructs a q = is_live q.status && (is_instruction q.channel && q.account == a)
+instructs a q = is_instruction q.channel && q.account == a
 
--- the lots that a request freezes in an account's holding of an option
-abbrev pub lots_frozen_by : ℕ → ℕ → Request → ℕ
-lots_frozen_by a k q = cond (instructs a q && q.option == k) q.lots 0
+-- the lots that a place of the request table freezes in an account's holding of an option
+abbrev pub lots_frozen_by : ℕ → ℕ → Option Request → ℕ
+lots_frozen_by a k None = 0
+lots_frozen_by a k (Some q) = cond (instructs a q && q.option == k) q.lots 0
 
--- the funds that a request freezes in an account: its lots at the margin rate of the option's future
-abbrev pub funds_frozen_by : Ledger → ℕ → Request → ℕ
-funds_frozen_by s a q = cond (instructs a q && is_exercise q.wish) (q.lots * rate_of (future_under s (option_of s q.option))) 0
+-- the funds that a place of the request table freezes in an account: its lots at the margin rate of the option's future
+abbrev pub funds_frozen_by : Ledger → ℕ → Option Request → ℕ
+funds_frozen_by s a None = 0
+funds_frozen_by s a (Some q) = cond (instructs a q && is_exercise q.wish) (q.lots * rate_of (future_under s (option_of s q.option))) 0
 
 abbrev pub frozen_lots_of : Ledger → ℕ → ℕ → ℕ
 frozen_lots_of s a k = sum_by (lots_frozen_by a k) s.requests

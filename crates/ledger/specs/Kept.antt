@@ -4,12 +4,11 @@ use Rattle.margin.specs.Limits.{FutureWithin, OptionWithin}
 use Rattle.margin.specs.declared.rule.FutureLot.{FutureLot}
 use Rattle.margin.specs.declared.rule.OptionLot.{OptionLot}
 use Rattle.ledger.specs.Sums.{sum_to}
-use Rattle.ledger.specs.Ledger.{Ledger, view, no_account, cash_of, long_of, short_of, future_of, option_of, future_under, draw_long, draw_short}
+use Rattle.ledger.specs.Ledger.{Ledger, no_account, cash_of, long_of, short_of, future_of, option_of, future_under, draw_long, draw_short}
 use Rattle.ledger.specs.Funds.{InRange}
 use Rattle.ledger.specs.declared.records.Contract.{Contract}
-use Rattle.ledger.specs.declared.records.FutureTerms.{FutureTerms}
-use Rattle.ledger.specs.declared.records.OptionTerms.{OptionTerms}
-use Rattle.ledger.specs.declared.records.State.{State}
+use Rattle.kinds.specs.declared.terms.FutureTerms.{FutureTerms}
+use Rattle.kinds.specs.declared.terms.OptionTerms.{OptionTerms}
 
 -- the tables have their places
 pub record ShapeKept (s : Ledger) : Type 0 where
@@ -78,5 +77,6 @@ pub record Sound (s : Ledger) : Type 0 where
   pub cash : CashKept s
   pub lots : LotsKept s
 
-abbrev pub Kept : State → Type 0
-Kept s = ∥ Sound (view s) ∥₁
+-- the same as a proposition
+abbrev pub Kept : Ledger → Type 0
+Kept s = ∥ Sound s ∥₁

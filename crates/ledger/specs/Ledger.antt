@@ -1,18 +1,14 @@
--- What a book stands for, how the code's record is read as one, and the readers and setters that every result goes through. Assumes nothing.
+-- What a book stands for, and the readers and setters that every result goes through. Assumes nothing.
 use Rattle.std.specs.Prelude.{ℕ, ◌-◌, cond, List, [], get_or, replicate, ℤ, pos, Some, None, Option, nat_lt, slice_index_or, slice_set}
-use Rattle.ledger.specs.declared.records.Holding.{Holding}
+use Rattle.kinds.specs.declared.terms.Holding.{Holding}
 use Rattle.ledger.specs.declared.records.Account.{Account}
 use Rattle.ledger.specs.declared.records.Contract.{Contract}
-use Rattle.ledger.specs.declared.records.FutureTerms.{FutureTerms}
-use Rattle.ledger.specs.declared.records.OptionTerms.{OptionTerms}
+use Rattle.kinds.specs.declared.terms.FutureTerms.{FutureTerms}
+use Rattle.kinds.specs.declared.terms.OptionTerms.{OptionTerms}
 use Rattle.ledger.specs.declared.records.Request.{Request}
-use Rattle.ledger.specs.declared.records.Wish.TheVariants.{Exercise}
-use Rattle.ledger.specs.declared.records.Channel.TheVariants.{Instruction}
-use Rattle.ledger.specs.declared.records.Status.TheVariants.{Unused}
 use Rattle.ledger.specs.declared.records.OpenDraw.{OpenDraw}
 use Rattle.ledger.specs.declared.records.Stage.{Stage}
 use Rattle.ledger.specs.declared.records.Stage.TheVariants.{Trading}
-use Rattle.ledger.specs.declared.records.State.{State}
 
 pub record Ledger : Type 0 where
   pub number : ℕ
@@ -21,12 +17,9 @@ pub record Ledger : Type 0 where
   pub accounts : List Account
   pub futures : List (Option (Contract FutureTerms))
   pub options : List (Option (Contract OptionTerms))
-  pub requests : List Request
+  -- the day's request table; None where no request has taken a place
+  pub requests : List (Option Request)
   pub draw : Option OpenDraw
-
--- every field of the code's record is in it
-abbrev pub view : State → Ledger
-view s = record { number = s.number; day = s.day; stage = s.stage; accounts = s.accounts; futures = s.futures; options = s.options.rows; requests = s.requests; draw = s.draw }
 
 -- the defaults of a look-up are those that the checker itself writes for these records
 abbrev pub no_holding : Holding
@@ -34,10 +27,6 @@ no_holding = record { long = 0; short = 0 }
 
 abbrev pub no_account : Account
 no_account = record { cash = pos 0; holdings = record { rows = [] } }
-
--- a place of the request table that no request has taken
-abbrev pub no_request : Request
-no_request = record { option = 0; account = 0; wish = Exercise; channel = Instruction; lots = 0; status = Unused }
 
 -- an account's cash
 abbrev pub cash_of : Ledger → ℕ → ℤ
@@ -111,4 +100,4 @@ opened = record { cash = pos 0; holdings = record { rows = replicate 20 no_holdi
 
 -- a book as it is made: empty, on day 1, trading
 unfoldable pub made : ℕ → Ledger
-made n = record { number = n; day = 1; stage = Trading; accounts = replicate 32 opened; futures = replicate 4 None; options = replicate 16 None; requests = replicate 256 no_request; draw = None }
+made n = record { number = n; day = 1; stage = Trading; accounts = replicate 32 opened; futures = replicate 4 None; options = replicate 16 None; requests = replicate 256 None; draw = None }

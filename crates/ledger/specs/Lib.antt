@@ -1,5 +1,8 @@
 pub mod Sums
+pub mod Words
+pub mod Accounts
 pub mod Ledger
+pub mod View
 pub mod Slips
 pub mod Funds
 pub mod Kept

@@ -2,16 +2,13 @@
 use Rattle.std.specs.Prelude.{ℕ, cond, ℤ, Some, None, Ok, Err, Option, Result, nat_le}
 use Rattle.refusals.specs.declared.Refusal.{Refusal}
 use Rattle.refusals.specs.declared.Refusal.TheVariants.{NoSuch}
+use Rattle.ledger.specs.Accounts.{of_account}
 use Rattle.ledger.specs.Ledger.{Ledger, cash_of, long_of, short_of, future_of, option_of, draw_holding}
 use Rattle.ledger.specs.Funds.{margin_of, frozen_of, available_of, free_of}
 use Rattle.ledger.specs.declared.records.Contract.{Contract}
-use Rattle.ledger.specs.declared.records.Holding.{Holding}
+use Rattle.kinds.specs.declared.terms.Holding.{Holding}
 use Rattle.ledger.specs.declared.questions.Position.{Position}
 use Rattle.ledger.specs.declared.questions.Quote.{Quote}
-
--- about an account: it is refused where there is none
-abbrev pub of_account : {A : Type 0} → ℕ → A → Result A Refusal
-of_account a x = cond (nat_le 32 a) (Err (NoSuch a)) (Ok x)
 
 abbrev pub cash_answer : Ledger → ℕ → Result ℤ Refusal
 cash_answer s a = of_account a (cash_of s a)
@@ -41,9 +38,13 @@ of_contract k (Some q) f = Ok (f q)
 abbrev pub contract_answer : Ledger → ℕ → Result Quote Refusal
 contract_answer s k = of_contract k (quote_of s k) (λ q. q)
 
+-- an account's lots in a contract
+abbrev pub position_answer : Ledger → ℕ → ℕ → Result Position Refusal
+position_answer s a k = of_contract k (quote_of s k) (λ q. record { long = long_of s a k; short = short_of s a k; free = free_of s a k })
+
 -- about a holding: the account is looked at first
 abbrev pub holding_answer : Ledger → ℕ → ℕ → Result Position Refusal
-holding_answer s a k = cond (nat_le 32 a) (Err (NoSuch a)) (of_contract k (quote_of s k) (λ q. record { long = long_of s a k; short = short_of s a k; free = free_of s a k }))
+holding_answer s a k = cond (nat_le 32 a) (Err (NoSuch a)) (position_answer s a k)
 
 -- the open draw's lots in a contract, 0 where none is open
 abbrev pub draw_lots_answer : Ledger → ℕ → Result Holding Refusal

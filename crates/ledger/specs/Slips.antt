@@ -1,5 +1,7 @@
 -- Which slips a call takes. Assumes nothing.
-use Rattle.std.specs.Prelude.{Bool, true, false, not, ◌||◌, ◌==◌}
+use Rattle.std.specs.Prelude.{Bool, true, false, cond, not, ◌||◌, Ok, Err, Result, ◌==◌}
+use Rattle.refusals.specs.declared.Refusal.{Refusal}
+use Rattle.refusals.specs.declared.Refusal.TheVariants.{WrongSlip}
 use Rattle.ledger.specs.Ledger.{Ledger}
 use Rattle.ledger.specs.declared.records.Slip.{Slip}
 use Rattle.ledger.specs.declared.records.Stage.{Stage}
@@ -19,3 +21,7 @@ same_stage Draw Draw = true
 -- the number, the day or the stage is not the one that the book now has, or the call takes slips of another stage
 abbrev pub wrong_slip : Ledger → Slip → Stage → Bool
 wrong_slip s slip taken = not (slip.number == s.number) || (not (slip.day == s.day) || (not (same_stage slip.stage s.stage) || not (same_stage slip.stage taken)))
+
+-- a wrong slip is refused, and the place is the book number on it
+abbrev pub admitted : Ledger → Slip → Stage → Result (Unit {0}) Refusal
+admitted s slip taken = cond (wrong_slip s slip taken) (Err (WrongSlip slip.number)) (Ok tt)

@@ -1,23 +1,25 @@
-// The record of a new book.
+// A new book.
 ghost use Rattle.std.specs.Prelude.{◌≡◌};
-ghost use Rattle.ledger.specs.Kept.{Kept};
-ghost use Rattle.ledger.specs.Ledger.{view, made};
+ghost use Rattle.ledger.specs.Ledger.{made};
+ghost use Rattle.ledger.specs.View.{view};
 
-use crate::records::{EMPTY, OPENED, OptionTable, Stage, State};
+use crate::records::{OPENED, OptionTable, Stage};
+use crate::state::State;
 
-// Empty, on day 1, trading.
-pub fn empty_record(number: u32) -> State
-    ensures stands { view result ≡ made number }
-    ensures kept { Kept result }
-{
-    State {
-        number,
-        day: 1,
-        stage: Stage::Trading,
-        accounts: [OPENED; 32],
-        futures: [None; 4],
-        options: OptionTable { rows: [None; 16] },
-        requests: [EMPTY; 256],
-        draw: None,
+impl State {
+    // Empty, on day 1, trading.
+    pub fn new(number: u32) -> State
+        ensures { view result ≡ made number }
+    {
+        State {
+            number,
+            day: 1,
+            stage: Stage::Trading,
+            accounts: [OPENED; 32],
+            futures: [None; 4],
+            options: OptionTable { rows: [None; 16] },
+            requests: [None; 256],
+            draw: None,
+        }
     }
 }

@@ -1,12 +1,16 @@
-// The questions: what a book tells of itself, at every stage. An account or contract that is not there is refused, accounts first.
-ghost use Rattle.std.specs.Prelude.{◌≡◌, ◌<◌, Some};
-ghost use Rattle.ledger.specs.Kept.{Kept};
-ghost use Rattle.ledger.specs.Ledger.{view, draw_cash, draw_holding};
-ghost use Rattle.ledger.specs.Questions.{quoted, quote_of, cash_answer, margin_answer, frozen_answer, available_answer, contract_answer, holding_answer, draw_lots_answer};
+// The questions about contracts, and the open draw: what a book tells of itself, at every stage. A contract that is not listed is refused.
+ghost use Rattle.std.specs.Prelude.{◌≡◌, Some};
+ghost use Rattle.ledger.specs.Ledger.{draw_cash};
+ghost use Rattle.ledger.specs.Questions.{quote_of, contract_answer, position_answer, draw_lots_answer};
+ghost use Rattle.ledger.specs.View.{view};
+ghost use Rattle.ledger.specs.Words.{position_text, quote_text};
 
-use crate::funds;
-use crate::records::{Contract, Holding, NO_LOTS, State};
+use crate::account::AccountNumber;
+use crate::records::{Contract, NO_LOTS};
+use crate::state::State;
+use kinds::terms::Holding;
 use refusals::Refusal;
+use std::fmt;
 
 // An account's lots in a contract; free are the long lots that no live instruction has taken.
 #[derive(Clone, Copy)]
@@ -16,6 +20,18 @@ pub struct Position {
     pub free: u32,
 }
 
+impl fmt::Display for Position {
+    ghost output = { λ position. Some (position_text position) };
+
+    fn fmt<W: fmt::Write>(&self, f: &mut fmt::Formatter<W>) -> fmt::Result {
+        write!(
+            f,
+            "long {} short {} free {}",
+            self.long, self.short, self.free
+        )
+    }
+}
+
 // A contract's carried price in fen a unit and its margin rate in fen a lot.
 #[derive(Clone, Copy)]
 pub struct Quote {
@@ -23,111 +39,73 @@ pub struct Quote {
     pub rate: u64,
 }
 
-pub fn cash(state: &State, account: u64) -> Result<i128, Refusal>
-    ensures { result ≡ cash_answer (view state.now) account }
-{
-    if account >= 32 {
-        return Err(Refusal::NoSuch(account));
-    }
-    Ok(state.accounts[account as usize].cash)
-}
+impl fmt::Display for Quote {
+    ghost output = { λ quote. Some (quote_text quote) };
 
-pub fn margin(state: &State, account: u64) -> Result<u128, Refusal>
-    ensures { result ≡ margin_answer (view state.now) account }
-{
-    if account >= 32 {
-        return Err(Refusal::NoSuch(account));
-    }
-    Ok(funds::margin(state, account as usize))
-}
-
-pub fn frozen(state: &State, account: u64) -> Result<u128, Refusal>
-    requires { Kept state.now }
-    ensures { result ≡ frozen_answer (view state.now) account }
-{
-    if account >= 32 {
-        return Err(Refusal::NoSuch(account));
-    }
-    Ok(funds::frozen(state, account as usize))
-}
-
-pub fn available(state: &State, account: u64) -> Result<i128, Refusal>
-    requires { Kept state.now }
-    ensures { result ≡ available_answer (view state.now) account }
-{
-    if account >= 32 {
-        return Err(Refusal::NoSuch(account));
-    }
-    Ok(funds::available(state, account as usize))
-}
-
-// The quote of a contract of one kind, else what there is of the other.
-fn quoted<T: Drop>(contract: Option<Contract<T>>, otherwise: Option<Quote>) -> Option<Quote>
-    ensures { result ≡ quoted contract otherwise }
-{
-    match contract {
-        Some(listed) => Some(Quote {
-            price: listed.carried,
-            rate: listed.rate,
-        }),
-        None => otherwise,
+    fn fmt<W: fmt::Write>(&self, f: &mut fmt::Formatter<W>) -> fmt::Result {
+        write!(f, "price {} rate {}", self.price, self.rate)
     }
 }
 
-// What is listed at a number, a future or an option.
-fn quote_at(state: &State, number: u64) -> Option<Quote>
-    ensures { result ≡ quote_of (view state.now) number }
-{
-    let option = quoted(funds::option_at(state, number), None);
-    quoted(funds::future_at(state, number), option)
-}
-
-pub fn contract(state: &State, number: u64) -> Result<Quote, Refusal>
-    ensures { result ≡ contract_answer (view state.now) number }
-{
-    match quote_at(state, number) {
-        Some(listed) => Ok(listed),
-        None => Err(Refusal::NoSuch(number)),
+impl<T: Drop> Contract<T> {
+    // Its quote, whatever its kind.
+    fn quote(self) -> Quote
+        ensures { result ≡ record { price = self.carried; rate = self.rate } }
+    {
+        Quote {
+            price: self.carried,
+            rate: self.rate,
+        }
     }
 }
 
-pub fn holding(state: &State, account: u64, contract: u64) -> Result<Position, Refusal>
-    requires { Kept state.now }
-    ensures { result ≡ holding_answer (view state.now) account contract }
-{
-    if account >= 32 {
-        return Err(Refusal::NoSuch(account));
+impl State {
+    // What is listed at a number, a future or an option.
+    fn quote_at(&self, number: u64) -> Option<Quote>
+        ensures { result ≡ quote_of (view self.now) number }
+    {
+        self.future_at(number)
+            .map(|future| future.quote())
+            .or_else(|| self.option_at(number).map(|option| option.quote()))
     }
-    let Some(_) = quote_at(state, contract) else {
-        return Err(Refusal::NoSuch(contract));
-    };
-    let held = state.accounts[account as usize].holdings.rows[contract as usize];
-    Ok(Position {
-        long: held.long,
-        short: held.short,
-        free: funds::free_lots(state, account as usize, contract as usize),
-    })
-}
 
-// The open draw's lots in a contract.
-pub fn draw_lots(state: &State, contract: u64) -> Result<Holding, Refusal>
-    ensures { result ≡ draw_lots_answer (view state.now) contract }
-{
-    let Some(_) = quote_at(state, contract) else {
-        return Err(Refusal::NoSuch(contract));
-    };
-    match state.draw {
-        Some(draw) => Ok(draw.holdings.rows[contract as usize]),
-        None => Ok(NO_LOTS),
+    pub fn contract(&self, number: u64) -> Result<Quote, Refusal>
+        ensures { result ≡ contract_answer (view self.now) number }
+    {
+        self.quote_at(number).ok_or(Refusal::NoSuch(number))
     }
-}
 
-// The open draw's cash.
-pub fn draw_cash(state: &State) -> i128
-    ensures { result ≡ draw_cash (view state.now) }
-{
-    match state.draw {
-        Some(draw) => draw.cash,
-        None => 0,
+    // An account's lots in a contract.
+    pub fn position(&self, account: AccountNumber, contract: u64) -> Result<Position, Refusal>
+        ensures { result ≡ position_answer (view self.now) account contract }
+    {
+        self.contract(contract)?;
+        let held = self.accounts[account.place()].holdings.rows[contract as usize];
+        Ok(Position {
+            long: held.long,
+            short: held.short,
+            free: self.free_lots(account, contract as usize),
+        })
+    }
+
+    // The open draw's lots in a contract.
+    pub fn draw_lots(&self, contract: u64) -> Result<Holding, Refusal>
+        ensures { result ≡ draw_lots_answer (view self.now) contract }
+    {
+        self.contract(contract)?;
+        Ok(match &self.draw {
+            Some(draw) => draw.holdings.rows[contract as usize],
+            None => NO_LOTS,
+        })
+    }
+
+    // The open draw's cash.
+    pub fn draw_cash(&self) -> i128
+        ensures { result ≡ draw_cash (view self.now) }
+    {
+        match &self.draw {
+            Some(draw) => draw.cash,
+            None => 0,
+        }
     }
 }

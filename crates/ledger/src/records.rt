@@ -1,15 +1,10 @@
 // The plain records inside a book. A call's fields are 64 bits wide, so that any number can be brought and named in a refusal;
 // the records are as narrow as the limits allow. Money is in fen.
 ghost use Rattle.std.specs.Prelude.{◌≡◌, ◌<◌, Some, slice_set};
+ghost use Rattle.ledger.specs.Words.{stage_word};
 
-use margin::rule::Right;
-
-// The lots that an account, or an open draw, holds in one contract.
-#[derive(Clone, Copy)]
-pub struct Holding {
-    pub long: u32,
-    pub short: u32,
-}
+use kinds::terms::{Holding, OptionTerms};
+use std::fmt;
 
 // A holding in each of the twenty contracts: futures 0 to 3, options 4 to 19.
 #[derive(Clone, Copy)]
@@ -31,32 +26,6 @@ impl Holdings {
 pub struct Account {
     pub cash: i128,
     pub holdings: Holdings,
-}
-
-// The terms of a future: units a lot, tick in fen, and the futures rate in ten-thousandths.
-#[derive(Clone, Copy)]
-pub struct FutureTerms {
-    pub units: u32,
-    pub tick: u32,
-    pub ratio: u32,
-}
-
-// An American option may be exercised on any day, a European one on its last day.
-#[derive(Clone, Copy)]
-pub enum Style {
-    American,
-    European,
-}
-
-// The terms of an option: the future that it is on, its right and style, strike and tick in fen, and its last day.
-#[derive(Clone, Copy)]
-pub struct OptionTerms {
-    pub future: u32,
-    pub right: Right,
-    pub style: Style,
-    pub strike: u32,
-    pub tick: u32,
-    pub last_day: u32,
 }
 
 // A listed contract: its terms, the price carried for it in fen a unit, and its margin rate in fen a lot.
@@ -83,26 +52,20 @@ impl OptionTable {
     }
 }
 
-#[derive(Clone, Copy)]
+#[derive(Clone, Copy, PartialEq, Eq)]
 pub enum Wish {
     Exercise,
     Abandon,
 }
 
 // An instruction freezes what it needs when it is accepted; a service request freezes nothing.
-#[derive(Clone, Copy)]
+#[derive(Clone, Copy, PartialEq, Eq)]
 pub enum Channel {
     Instruction,
     Service,
 }
 
-#[derive(Clone, Copy)]
-pub enum Status {
-    Unused,
-    Live,
-}
-
-// A place of the day's request table.
+// A live request. A place of the day's table that no request has taken is `None`.
 #[derive(Clone, Copy)]
 pub struct Request {
     pub option: u32,
@@ -110,15 +73,26 @@ pub struct Request {
     pub wish: Wish,
     pub channel: Channel,
     pub lots: u32,
-    pub status: Status,
 }
 
 // The stage of a day: trading, then after the cut, and in between while a draw is open.
-#[derive(Clone, Copy)]
+#[derive(Clone, Copy, PartialEq, Eq)]
 pub enum Stage {
     Trading,
     Cut,
     Draw,
+}
+
+impl fmt::Display for Stage {
+    ghost output = { λ stage. Some (stage_word stage) };
+
+    fn fmt<W: fmt::Write>(&self, f: &mut fmt::Formatter<W>) -> fmt::Result {
+        f.write_str(match self {
+            Stage::Trading => "trading",
+            Stage::Cut => "cut",
+            Stage::Draw => "draw",
+        })
+    }
 }
 
 // What a slip bears: the book's number, the day and the stage that it was given for.
@@ -136,18 +110,6 @@ pub struct OpenDraw {
     pub holdings: Holdings,
 }
 
-#[derive(Clone, Copy)]
-pub struct State {
-    pub number: u32,
-    pub day: u32,
-    pub stage: Stage,
-    pub accounts: [Account; 32],
-    pub futures: [Option<Contract<FutureTerms>>; 4],
-    pub options: OptionTable,
-    pub requests: [Request; 256],
-    pub draw: Option<OpenDraw>,
-}
-
 // What a call that was carried out tells.
 #[derive(Clone, Copy)]
 pub enum Reply {
@@ -161,14 +123,4 @@ pub const OPENED: Account = Account {
     holdings: Holdings {
         rows: [NO_LOTS; 20],
     },
-};
-
-// A place of the request table that no request has taken today.
-pub const EMPTY: Request = Request {
-    option: 0,
-    account: 0,
-    wish: Wish::Exercise,
-    channel: Channel::Instruction,
-    lots: 0,
-    status: Status::Unused,
 };

@@ -1,26 +1,30 @@
 // Whether a slip is one that a call takes at this moment.
 ghost use Rattle.std.specs.Prelude.{◌≡◌};
-ghost use Rattle.ledger.specs.Ledger.{view};
-ghost use Rattle.ledger.specs.Slips.{same_stage, wrong_slip};
+ghost use Rattle.ledger.specs.Slips.{wrong_slip, admitted};
+ghost use Rattle.ledger.specs.View.{view};
 
-use crate::records::{Slip, Stage, State};
+use crate::records::{Slip, Stage};
+use crate::state::State;
+use refusals::Refusal;
 
-pub fn same_stage(one: Stage, other: Stage) -> bool
-    ensures { result ≡ same_stage one other }
-{
-    match (one, other) {
-        (Stage::Trading, Stage::Trading) | (Stage::Cut, Stage::Cut) | (Stage::Draw, Stage::Draw) =>
-            { true }
-        _ => false,
+impl State {
+    // A call that takes slips of one stage refuses any other slip, and one of another book or day.
+    pub fn wrong_slip(&self, slip: Slip, taken: Stage) -> bool
+        ensures { result ≡ wrong_slip (view self.now) slip taken }
+    {
+        slip.number != self.number
+            || slip.day != self.day
+            || slip.stage != self.stage
+            || slip.stage != taken
     }
-}
 
-// A call that takes slips of one stage refuses any other slip, and one of another book or day.
-pub fn wrong_slip(state: &State, slip: Slip, taken: Stage) -> bool
-    ensures { result ≡ wrong_slip (view state.now) slip taken }
-{
-    slip.number != state.number
-        || slip.day != state.day
-        || !same_stage(slip.stage, state.stage)
-        || !same_stage(slip.stage, taken)
+    // Takes a slip for a call, or tells the book number on it.
+    pub fn admit(&self, slip: Slip, taken: Stage) -> Result<(), Refusal>
+        ensures { result ≡ admitted (view self.now) slip taken }
+    {
+        if self.wrong_slip(slip, taken) {
+            return Err(Refusal::WrongSlip(u64::from(slip.number)));
+        }
+        Ok(())
+    }
 }

@@ -1,6 +1,6 @@
 // Calls: each is carried out as a run of one.
 ghost use Rattle.std.specs.Prelude.{◌≡◌};
-ghost use Rattle.ledger.specs.Ledger.{view};
+ghost use Rattle.ledger.specs.View.{view};
 ghost use Rattle.rogbeku.specs.Written.{written};
 
 use crate::answers::tell_refusal;

@@ -9,10 +9,10 @@ use Rattle.ledger.specs.Ledger.{Ledger, short_of, holding_of, future_of, option_
 use Rattle.ledger.specs.Funds.{all_cash, contract_margin, rate_of}
 use Rattle.ledger.specs.Kept.{Sound, OptionKept, Covers}
 use Rattle.ledger.specs.Calls.{after}
-use Rattle.ledger.specs.declared.records.Holding.{Holding}
+use Rattle.kinds.specs.declared.terms.Holding.{Holding}
 use Rattle.ledger.specs.declared.records.Contract.{Contract}
-use Rattle.ledger.specs.declared.records.FutureTerms.{FutureTerms}
-use Rattle.ledger.specs.declared.records.OptionTerms.{OptionTerms}
+use Rattle.kinds.specs.declared.terms.FutureTerms.{FutureTerms}
+use Rattle.kinds.specs.declared.terms.OptionTerms.{OptionTerms}
 use Rattle.ledger.proofs.Totals.{sum_to_mono}
 use Rattle.ledger.proofs.Changes.{all_cash_moves, future_same, future_other, option_same, option_other}
 use Rattle.session.specs.Cash.{deposited, withdrawn, deposit_refusal, withdrawal_refusal}

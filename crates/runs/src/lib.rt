@@ -3,7 +3,8 @@
 
 ghost use Rattle.std.specs.Prelude.{◌≡◌, ℕ, ◌+◌, ◌≤◌, List, ◌++◌, map, length, IfOk, vec_len, vec_capacity, MatchResult, OnErr};
 ghost use Rattle.ledger.specs.Calls.{answer, after};
-ghost use Rattle.ledger.specs.Ledger.{view, made};
+ghost use Rattle.ledger.specs.Ledger.{made};
+ghost use Rattle.ledger.specs.View.{view};
 ghost use Rattle.book.specs.Acts.{Act, act, stepped};
 ghost use Rattle.runs.specs.Journal.{reached, answers, journal, carried_out};
 ghost use Rattle.runs.specs.Law.{Law};

@@ -1,19 +1,24 @@
 -- What a listing that meets no refusal tells, and that it keeps the invariant under every lawful margin rule. Assumes nothing.
-use Rattle.std.proofs.Common.{◌≡◌, ℕ, ◌^◌, ◌<◌, ◌≤◌, false, not, leb, is_some, Some, None, Option, refl, arith}
+use Rattle.std.proofs.Common.{◌≡◌, ℕ, ◌^◌, ◌<◌, ◌≤◌, Bool, true, false, cond, not, leb, is_some, Some, None, Option, refl, arith}
 use Rattle.std.proofs.lemmas.Bool.Decides.{nat_tests}
+use Rattle.refusals.specs.declared.Refusal.{Refusal}
 use Rattle.margin.specs.Limits.{OptionWithin}
 use Rattle.margin.specs.Rules.{Rule, Lawful}
 use Rattle.ledger.specs.Ledger.{Ledger, future_of}
-use Rattle.ledger.specs.Kept.{Sound, FutureKept, Covers, future_lot}
+use Rattle.ledger.specs.Kept.{Sound, FutureSound, FutureKept, Covers, OptionSound, future_lot}
 use Rattle.ledger.specs.declared.records.Slip.{Slip}
 use Rattle.ledger.specs.declared.records.Contract.{Contract}
-use Rattle.ledger.specs.declared.records.FutureTerms.{FutureTerms}
+use Rattle.kinds.specs.declared.terms.FutureTerms.{FutureTerms}
 use Rattle.ledger.proofs.Changes.{keep_future, keep_option}
-use Rattle.ledger.proofs.Performing.{passed}
 use Rattle.session.specs.Limits.{outside, bad_price}
-use Rattle.session.specs.Listings.{future_listing_refusal, future_listing_effect, listed_future, FutureListable, option_listing_refusal, option_listing_effect, listed_option, option_contract, asked_rate, OptionListable}
+use Rattle.session.specs.Listings.{future_listing_refusal, future_listing_effect, listed_future, future_contract, FutureListable, option_listing_refusal, option_listing_effect, listed_option, option_contract, asked_rate, OptionListable}
 use Rattle.session.specs.declared.orders.FutureListing.{FutureListing}
 use Rattle.session.specs.declared.orders.OptionListing.{OptionListing}
+
+-- a row that was passed: its test failed, and no later row was met
+passed : (b : Bool) (r : Refusal) (rest : Option Refusal) → cond b (Some r) rest ≡ None → (b ≡ false) × (rest ≡ None)
+passed true r rest e = absurd (grind (arith, nat_tests))
+passed false r rest e = (refl, e)
 
 under : (n k : ℕ) → leb n k ≡ false → k < n
 under n k e = grind (arith, nat_tests)
@@ -53,16 +58,21 @@ is_none (Some x) e = absurd (grind (arith, nat_tests))
 pub future_free : (s : Ledger) (slip : Slip) (l : FutureListing) → future_listing_refusal s slip l ≡ None → is_some (future_of s l.number) ≡ false
 future_free s slip l e = grind (arith, nat_tests)
 
-pub future_listing_keeps : (rule : Rule) → Lawful rule → (s : Ledger) (slip : Slip) (l : FutureListing) → Sound s → future_listing_refusal s slip l ≡ None → Sound (future_listing_effect s l (rule.future_sum (listed_future l)))
-future_listing_keeps rule lawful s slip l h e =
-    let known = future_listable s slip l e in
+-- the future as it is listed, at the rate that a lawful rule asks, is within the limits
+pub future_sound : (rule : Rule) → Lawful rule → (l : FutureListing) → FutureListable l → FutureSound (future_contract l (rule.future_sum (listed_future l)))
+future_sound rule lawful l known =
     let w = known.within in
-    keep_future s l.number _ h known.number_most (is_none (future_of s l.number) (future_free s slip l e)) (record {
+    record {
       within = record { price_least = w.price_least; price_most = w.price_most; units_least = w.units_least; units_most = w.units_most; ratio_least = w.ratio_least; ratio_most = w.ratio_most };
       tick_least = known.tick_least;
       tick_most = known.tick_most;
       rate_most = lawful.future_most (listed_future l) w;
-    })
+    }
+
+pub future_listing_keeps : (rule : Rule) → Lawful rule → (s : Ledger) (slip : Slip) (l : FutureListing) → Sound s → future_listing_refusal s slip l ≡ None → Sound (future_listing_effect s l (rule.future_sum (listed_future l)))
+future_listing_keeps rule lawful s slip l h e =
+    let known = future_listable s slip l e in
+    keep_future s l.number _ h known.number_most (is_none (future_of s l.number) (future_free s slip l e)) (future_sound rule lawful l known)
 
 -- the rows that an option's listing passed
 pub record OptionRows (s : Ledger) (l : OptionListing) : Type 0 where
@@ -113,14 +123,15 @@ asked_covers : (rule : Rule) → Lawful rule → (f : Option (Contract FutureTer
 asked_covers rule lawful None l listed h w = absurd (grind (arith, nat_tests))
 asked_covers rule lawful (Some f) l listed h w = lawful.option_covers (future_lot f) (listed_option l) h.within w
 
-pub option_listing_keeps : (rule : Rule) → Lawful rule → (s : Ledger) (slip : Slip) (l : OptionListing) → Sound s → option_listing_refusal s slip l ≡ None → Sound (option_listing_effect s l (asked_rate rule (future_of s l.future) l))
-option_listing_keeps rule lawful s slip l h e =
+-- so the option as it is listed, at that rate, is sound
+pub option_sound : (rule : Rule) → Lawful rule → (s : Ledger) (slip : Slip) (l : OptionListing) → Sound s → option_listing_refusal s slip l ≡ None → OptionSound s (option_contract l (asked_rate rule (future_of s l.future) l))
+option_sound rule lawful s slip l h e =
     let rows = option_rows s slip l e in
     let known = option_listable s l rows in
     let w = known.within in
     let f = future_of s l.future in
     let sound = h.contracts.futures l.future (omega (arith, known.future_most)) in
-    keep_option s l.number _ h known.number_least known.number_most (record {
+    record {
       within = record { strike_least = w.strike_least; strike_most = w.strike_most; price_least = w.price_least; price_most = w.price_most };
       tick_least = known.tick_least;
       tick_most = known.tick_most;
@@ -128,4 +139,9 @@ option_listing_keeps rule lawful s slip l h e =
       last_most = known.last_most;
       rate_most = asked_most rule lawful f l sound w;
       covers = asked_covers rule lawful f l rows.future sound w;
-    })
+    }
+
+pub option_listing_keeps : (rule : Rule) → Lawful rule → (s : Ledger) (slip : Slip) (l : OptionListing) → Sound s → option_listing_refusal s slip l ≡ None → Sound (option_listing_effect s l (asked_rate rule (future_of s l.future) l))
+option_listing_keeps rule lawful s slip l h e =
+    let known = option_listable s l (option_rows s slip l e) in
+    keep_option s l.number _ h known.number_least known.number_most (option_sound rule lawful s slip l h e)

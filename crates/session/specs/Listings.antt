@@ -14,8 +14,8 @@ use Rattle.ledger.specs.declared.records.Reply.TheVariants.{Done}
 use Rattle.ledger.specs.declared.records.Slip.{Slip}
 use Rattle.ledger.specs.declared.records.Stage.TheVariants.{Trading}
 use Rattle.ledger.specs.declared.records.Contract.{Contract}
-use Rattle.ledger.specs.declared.records.FutureTerms.{FutureTerms}
-use Rattle.ledger.specs.declared.records.OptionTerms.{OptionTerms}
+use Rattle.kinds.specs.declared.terms.FutureTerms.{FutureTerms}
+use Rattle.kinds.specs.declared.terms.OptionTerms.{OptionTerms}
 use Rattle.session.specs.Limits.{outside, bad_price}
 use Rattle.session.specs.declared.orders.FutureListing.{FutureListing}
 use Rattle.session.specs.declared.orders.OptionListing.{OptionListing}

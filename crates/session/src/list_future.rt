@@ -1,89 +1,88 @@
 // Listing a future at the margin rate that the rule asks.
-ghost use Rattle.std.specs.Prelude.{◌≡◌};
-ghost use Rattle.margin.specs.Limits.{FutureWithin};
+ghost use Rattle.std.specs.Prelude.{◌≡◌, OnOk};
+ghost use Rattle.std.specs.Result.{result_err};
 ghost use Rattle.ledger.specs.Calls.{Performs, plainly};
-ghost use Rattle.ledger.specs.Kept.{Kept};
-ghost use Rattle.ledger.specs.Ledger.{view};
-ghost use Rattle.session.specs.Listings.{future_listing_refusal, future_listing_effect, future_listed, listed_future, FutureListable};
+ghost use Rattle.ledger.specs.View.{view};
+ghost use Rattle.margin.specs.Limits.{FutureWithin};
+ghost use Rattle.session.specs.Listings.{future_listing_refusal, future_listed, listed_future, future_contract, FutureListable};
 
 use crate::limits::{bad_price, outside};
 use crate::orders::FutureListing;
-use ledger::records::{Contract, FutureTerms, Slip, Stage, State};
-use ledger::slip::wrong_slip;
-use ledger::{funds, setters};
+use kinds::terms::FutureTerms;
+use ledger::records::{Contract, Slip, Stage};
+use ledger::state::State;
 use margin::rule::{FutureLot, MarginRule};
 use refusals::Refusal;
 
-pub fn future_listing_refusal(state: &State, slip: Slip, order: FutureListing) -> Option<Refusal>
-    ensures { result ≡ future_listing_refusal (view state.now) slip order }
-{
-    if wrong_slip(state, slip, Stage::Trading) {
-        return Some(Refusal::WrongSlip(slip.number as u64));
+impl FutureListing {
+    // What the margin rule is asked with.
+    pub fn lot(self) -> FutureLot
+        requires { FutureWithin (listed_future self) }
+        ensures { result ≡ listed_future self }
+    {
+        FutureLot {
+            price: self.price as u32,
+            units: self.units as u32,
+            ratio: self.ratio as u32,
+        }
     }
+
+    // The future as it is listed, at a rate.
+    pub fn contract(self, rate: u64) -> Contract<FutureTerms>
+        requires { FutureListable self }
+        ensures { result ≡ future_contract self rate }
+    {
+        Contract {
+            terms: FutureTerms {
+                units: self.units as u32,
+                tick: self.tick as u32,
+                ratio: self.ratio as u32,
+            },
+            carried: self.price as u32,
+            rate,
+        }
+    }
+}
+
+// Whether a row refuses the listing; one that none refuses is within the limits.
+pub fn check_future(state: &State, slip: Slip, order: FutureListing) -> Result<(), Refusal>
+    ensures rows { result_err result ≡ future_listing_refusal (view state.now) slip order }
+    ensures within { OnOk result (FutureListable order) }
+{
+    state.admit(slip, Stage::Trading)?;
     if order.number >= 4 {
-        return Some(Refusal::NoSuch(order.number));
+        return Err(Refusal::NoSuch(order.number));
     }
     if outside(1, 1_000, order.units) {
-        return Some(Refusal::OutOfLimits(2));
+        return Err(Refusal::OutOfLimits(2));
     }
     if outside(1, 100_000, order.tick) {
-        return Some(Refusal::OutOfLimits(3));
+        return Err(Refusal::OutOfLimits(3));
     }
     if outside(1, 10_000, order.ratio) {
-        return Some(Refusal::OutOfLimits(4));
+        return Err(Refusal::OutOfLimits(4));
     }
     if bad_price(order.tick, order.price) {
-        return Some(Refusal::OutOfLimits(5));
+        return Err(Refusal::OutOfLimits(5));
     }
-    if funds::future_at(state, order.number).is_some() {
-        return Some(Refusal::Occupied(order.number));
+    if state.future_at(order.number).is_some() {
+        return Err(Refusal::Occupied(order.number));
     }
-    None
+    Ok(())
 }
 
-// What the margin rule is asked with.
-pub fn listed_future(order: FutureListing) -> FutureLot
-    requires { FutureWithin (listed_future order) }
-    ensures { result ≡ listed_future order }
-{
-    FutureLot {
-        price: order.price as u32,
-        units: order.units as u32,
-        ratio: order.ratio as u32,
-    }
-}
-
-pub fn future_listing_effect(state: &mut State, order: FutureListing, rate: u64)
-    requires { FutureListable order }
-    ensures { view state.new ≡ future_listing_effect (view state.old) order rate }
-{
-    let terms = FutureTerms {
-        units: order.units as u32,
-        tick: order.tick as u32,
-        ratio: order.ratio as u32,
-    };
-    let future = Contract {
-        terms,
-        carried: order.price as u32,
-        rate,
-    };
-    setters::set_future(state, order.number as usize, future);
-}
-
+#[tactic(auto, unfolding(crate::specs::Listings::future_listed))]
 pub fn list_future<R: MarginRule>(
     state: &mut State,
     rule: &R,
     slip: Slip,
     order: FutureListing,
 ) -> Result<(), Refusal>
-    requires { Kept state.old }
-    ensures performs { Performs plainly (future_listed (R.meaning rule.now) (view state.old) slip order) state.old state.new result }
-    ensures kept { Kept state.new }
+    ensures { Performs plainly (future_listed (R.meaning rule.now) (view state.old) slip order) state.old state.new result }
 {
-    if let Some(refusal) = future_listing_refusal(state, slip, order) {
-        return Err(refusal);
-    }
-    let rate = rule.future_sum(listed_future(order));
-    future_listing_effect(state, order, rate);
+    check_future(state, slip, order)?;
+    let rate = rule.future_sum(order.lot());
+    let future = order.contract(rate);
+    state.set_future(order.number as usize, future);
     Ok(())
 }

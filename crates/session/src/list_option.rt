@@ -1,108 +1,103 @@
 // Listing an option at the margin rate that the rule asks.
-ghost use Rattle.std.specs.Prelude.{◌≡◌};
-ghost use Rattle.margin.specs.Limits.{OptionWithin};
+ghost use Rattle.std.specs.Prelude.{◌≡◌, ℕ, IfOk, OnOk, Some};
+ghost use Rattle.std.specs.Result.{result_err};
 ghost use Rattle.ledger.specs.Calls.{Performs, plainly};
-ghost use Rattle.ledger.specs.Kept.{Kept, FutureKept};
-ghost use Rattle.ledger.specs.Ledger.{view};
-ghost use Rattle.session.specs.Listings.{option_listing_refusal, option_listing_effect, option_listed, listed_option, asked_rate, OptionListable};
+ghost use Rattle.ledger.specs.Kept.{FutureSound};
+ghost use Rattle.ledger.specs.Ledger.{future_of};
+ghost use Rattle.ledger.specs.View.{view};
+ghost use Rattle.margin.specs.Limits.{OptionWithin};
+ghost use Rattle.session.specs.Listings.{option_listing_refusal, option_listed, listed_option, option_contract, OptionListable};
 
 use crate::limits::{bad_price, outside};
 use crate::orders::OptionListing;
-use ledger::records::{Contract, FutureTerms, OptionTerms, Slip, Stage, State};
-use ledger::slip::wrong_slip;
-use ledger::{funds, setters};
-use margin::rule::{FutureLot, MarginRule, OptionLot};
+use kinds::terms::{FutureTerms, OptionTerms};
+use ledger::records::{Contract, Slip, Stage};
+use ledger::state::State;
+use margin::rule::{MarginRule, OptionLot};
 use refusals::Refusal;
 
-pub fn option_listing_refusal(state: &State, slip: Slip, order: OptionListing) -> Option<Refusal>
-    ensures { result ≡ option_listing_refusal (view state.now) slip order }
+impl OptionListing {
+    // What the margin rule is asked with.
+    pub fn lot(self) -> OptionLot
+        requires { OptionWithin (listed_option self) }
+        ensures { result ≡ listed_option self }
+    {
+        OptionLot {
+            right: self.right,
+            strike: self.strike as u32,
+            price: self.price as u32,
+        }
+    }
+
+    // The option as it is listed, at a rate.
+    pub fn contract(self, rate: u64) -> Contract<OptionTerms>
+        requires { (day : ℕ) × OptionListable day self }
+        ensures { result ≡ option_contract self rate }
+    {
+        Contract {
+            terms: OptionTerms {
+                future: self.future as u32,
+                right: self.right,
+                style: self.style,
+                strike: self.strike as u32,
+                tick: self.tick as u32,
+                last_day: self.last_day as u32,
+            },
+            carried: self.price as u32,
+            rate,
+        }
+    }
+}
+
+// The future that the option is on, where no row refuses the listing, which then is within the limits.
+pub fn check_option(
+    state: &State,
+    slip: Slip,
+    order: OptionListing,
+) -> Result<Contract<FutureTerms>, Refusal>
+    ensures rows { result_err result ≡ option_listing_refusal (view state.now) slip order }
+    ensures future { IfOk result (λ future. future_of (view state.now) order.future ≡ Some future) }
+    ensures sound { IfOk result FutureSound }
+    ensures within { OnOk result (OptionListable state.now.day order) }
 {
-    if wrong_slip(state, slip, Stage::Trading) {
-        return Some(Refusal::WrongSlip(slip.number as u64));
-    }
+    state.admit(slip, Stage::Trading)?;
     if outside(4, 19, order.number) {
-        return Some(Refusal::NoSuch(order.number));
+        return Err(Refusal::NoSuch(order.number));
     }
-    if funds::future_at(state, order.future).is_none() {
-        return Some(Refusal::NoSuch(order.future));
-    }
+    let future = state
+        .future_at(order.future)
+        .ok_or(Refusal::NoSuch(order.future))?;
     if outside(1, 99_999_999, order.strike) {
-        return Some(Refusal::OutOfLimits(5));
+        return Err(Refusal::OutOfLimits(5));
     }
     if outside(1, 100_000, order.tick) {
-        return Some(Refusal::OutOfLimits(6));
+        return Err(Refusal::OutOfLimits(6));
     }
-    if outside(state.day as u64, 1_000_000, order.last_day) {
-        return Some(Refusal::OutOfLimits(7));
+    if outside(u64::from(state.day), 1_000_000, order.last_day) {
+        return Err(Refusal::OutOfLimits(7));
     }
     if bad_price(order.tick, order.price) {
-        return Some(Refusal::OutOfLimits(8));
+        return Err(Refusal::OutOfLimits(8));
     }
-    if funds::option_at(state, order.number).is_some() {
-        return Some(Refusal::Occupied(order.number));
+    if state.option_at(order.number).is_some() {
+        return Err(Refusal::Occupied(order.number));
     }
-    None
+    Ok(future)
 }
 
-// The rate that the margin rule asks at the price carried for the future and the price listed for the option.
-pub fn asked_rate<R: MarginRule>(
-    rule: &R,
-    future: Option<Contract<FutureTerms>>,
-    order: OptionListing,
-) -> u64
-    requires { (FutureKept future) × (OptionWithin (listed_option order)) }
-    ensures { result ≡ asked_rate (R.meaning rule.now) future order }
-{
-    let Some(listed) = future else {
-        return 0;
-    };
-    let future = FutureLot {
-        price: listed.carried,
-        units: listed.terms.units,
-        ratio: listed.terms.ratio,
-    };
-    let option = OptionLot {
-        right: order.right,
-        strike: order.strike as u32,
-        price: order.price as u32,
-    };
-    rule.option_sum(future, option)
-}
-
-pub fn option_listing_effect(state: &mut State, order: OptionListing, rate: u64)
-    requires { OptionListable state.old.day order }
-    ensures { view state.new ≡ option_listing_effect (view state.old) order rate }
-{
-    let terms = OptionTerms {
-        future: order.future as u32,
-        right: order.right,
-        style: order.style,
-        strike: order.strike as u32,
-        tick: order.tick as u32,
-        last_day: order.last_day as u32,
-    };
-    let option = Contract {
-        terms,
-        carried: order.price as u32,
-        rate,
-    };
-    setters::set_option(state, order.number as usize, option);
-}
-
+// The rate is asked at the price carried for the future and the price listed for the option.
+#[tactic(auto, unfolding(crate::specs::Listings::option_listed))]
 pub fn list_option<R: MarginRule>(
     state: &mut State,
     rule: &R,
     slip: Slip,
     order: OptionListing,
 ) -> Result<(), Refusal>
-    requires { Kept state.old }
-    ensures performs { Performs plainly (option_listed (R.meaning rule.now) (view state.old) slip order) state.old state.new result }
-    ensures kept { Kept state.new }
+    ensures { Performs plainly (option_listed (R.meaning rule.now) (view state.old) slip order) state.old state.new result }
 {
-    if let Some(refusal) = option_listing_refusal(state, slip, order) {
-        return Err(refusal);
-    }
-    let rate = asked_rate(rule, funds::future_at(state, order.future), order);
-    option_listing_effect(state, order, rate);
+    let future = check_option(state, slip, order)?;
+    let rate = rule.option_sum(future.lot(), order.lot());
+    let option = order.contract(rate);
+    state.set_option(order.number as usize, option);
     Ok(())
 }

@@ -1,5 +1,5 @@
 // What each call of the session brings besides its slip: fields of any value, in the order in which refusals rank them from 1.
-use ledger::records::Style;
+use kinds::terms::Style;
 use margin::rule::Right;
 
 #[derive(Clone, Copy)]

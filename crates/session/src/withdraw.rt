@@ -1,54 +1,52 @@
 // Cash paid out.
-ghost use Rattle.std.specs.Prelude.{◌≡◌, ◌<◌};
+ghost use Rattle.std.specs.Prelude.{◌≡◌, IfOk, pos, ◌-ℤ◌, int_lt};
+ghost use Rattle.std.specs.Result.{result_err};
 ghost use Rattle.ledger.specs.Calls.{Performs, plainly};
-ghost use Rattle.ledger.specs.Kept.{Kept};
-ghost use Rattle.ledger.specs.Ledger.{view};
-ghost use Rattle.session.specs.Cash.{withdrawal_refusal, withdrawal_effect, withdrawn};
+ghost use Rattle.ledger.specs.Funds.{available_of};
+ghost use Rattle.ledger.specs.View.{view};
+ghost use Rattle.session.specs.Cash.{withdrawal_refusal, withdrawn};
 
 use crate::deposit::MOST_AMOUNT;
 use crate::limits::outside;
 use crate::orders::Withdrawal;
-use ledger::records::{Slip, Stage, State};
-use ledger::slip::wrong_slip;
-use ledger::{funds, setters};
+use ledger::account::AccountNumber;
+use ledger::records::{Slip, Stage};
+use ledger::state::State;
 use refusals::Refusal;
 
-pub fn withdrawal_refusal(state: &State, slip: Slip, order: Withdrawal) -> Option<Refusal>
-    requires { Kept state.now }
-    ensures { result ≡ withdrawal_refusal (view state.now) slip order }
+// Whether an amount is more than the available funds, so that less than 0 would be left of them.
+fn overdraws(state: &State, account: AccountNumber, amount: u64) -> bool
+    ensures { result ≡ int_lt (available_of (view state.now) account -ℤ pos amount) (pos 0) }
 {
-    if wrong_slip(state, slip, Stage::Trading) {
-        return Some(Refusal::WrongSlip(slip.number as u64));
-    }
-    if order.account >= 32 {
-        return Some(Refusal::NoSuch(order.account));
-    }
+    state.available(account) - i128::from(amount) < 0
+}
+
+// The account that a withdrawal comes from, where no row refuses it.
+pub fn check_withdrawal(
+    state: &State,
+    slip: Slip,
+    order: Withdrawal,
+) -> Result<AccountNumber, Refusal>
+    ensures rows { result_err result ≡ withdrawal_refusal (view state.now) slip order }
+    ensures account { IfOk result (λ account. account ≡ order.account) }
+{
+    state.admit(slip, Stage::Trading)?;
+    let account = AccountNumber::try_from(order.account)?;
     if outside(1, MOST_AMOUNT, order.amount) {
-        return Some(Refusal::OutOfLimits(2));
+        return Err(Refusal::OutOfLimits(2));
     }
-    if funds::available(state, order.account as usize) - (order.amount as i128) < 0 {
-        return Some(Refusal::ShortOfFunds(order.account));
+    if overdraws(state, account, order.amount) {
+        return Err(Refusal::ShortOfFunds(order.account));
     }
-    None
+    Ok(account)
 }
 
-pub fn withdrawal_effect(state: &mut State, order: Withdrawal)
-    requires { (Kept state.old) × (order.account < 32) }
-    ensures { view state.new ≡ withdrawal_effect (view state.old) order }
-{
-    let account = order.account as usize;
-    let cash = funds::cash(state, account) - order.amount as i128;
-    setters::set_cash(state, account, cash);
-}
-
+#[tactic(auto, unfolding(crate::specs::Cash::withdrawn))]
 pub fn withdraw(state: &mut State, slip: Slip, order: Withdrawal) -> Result<(), Refusal>
-    requires { Kept state.old }
-    ensures performs { Performs plainly (withdrawn (view state.old) slip order) state.old state.new result }
-    ensures kept { Kept state.new }
+    ensures { Performs plainly (withdrawn (view state.old) slip order) state.old state.new result }
 {
-    if let Some(refusal) = withdrawal_refusal(state, slip, order) {
-        return Err(refusal);
-    }
-    withdrawal_effect(state, order);
+    let account = check_withdrawal(state, slip, order)?;
+    let cash = state.cash(account) - i128::from(order.amount);
+    state.set_cash(account, cash);
     Ok(())
 }

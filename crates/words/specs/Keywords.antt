@@ -3,8 +3,8 @@ use Rattle.std.specs.Prelude.{ℕ, cond, List, [], ◌∷◌, Some, None, codes,
 use Rattle.std.specs.Str.{bytes_eq}
 use Rattle.margin.specs.declared.rule.Right.{Right}
 use Rattle.margin.specs.declared.rule.Right.TheVariants as right
-use Rattle.ledger.specs.declared.records.Style.{Style}
-use Rattle.ledger.specs.declared.records.Style.TheVariants.{American, European}
+use Rattle.kinds.specs.declared.terms.Style.{Style}
+use Rattle.kinds.specs.declared.terms.Style.TheVariants.{American, European}
 use Rattle.words.specs.declared.keyword.CallWord.TheVariants as call
 use Rattle.words.specs.declared.keyword.QuestionWord.TheVariants as question
 use Rattle.words.specs.declared.keyword.Opening.{Opening}

@@ -1,6 +1,7 @@
 use Rattle.std.proofs.Common.{[], ◌∷◌, ◌++◌, map, get_or, take, vec_items, Result, sym, ap, ◌∙◌, append_assoc, arith, take_all}
 use Rattle.refusals.specs.declared.Refusal.{Refusal}
-use Rattle.ledger.specs.Ledger.{Ledger, view}
+use Rattle.ledger.specs.Ledger.{Ledger}
+use Rattle.ledger.specs.View.{view}
 use Rattle.ledger.specs.Calls.{answer, after}
 use Rattle.ledger.specs.declared.records.Reply.{Reply}
 use Rattle.session.specs.declared.orders.Order.TheVariants.{Deposit}

@@ -1,5 +1,5 @@
 use Rattle.std.proofs.Common.{◌≡◌, ◌+◌, ◌++◌, map, take, vec_items, vec_len, vec_capacity}
-use Rattle.ledger.specs.Ledger.{view}
+use Rattle.ledger.specs.View.{view}
 use Rattle.book.specs.Acts.{act}
 use Rattle.runs.specs.Journal.{reached, answers}
 use Rattle.runs.proofs.carry_out.Given as goal

@@ -1,6 +1,6 @@
 use Rattle.std.proofs.Common.{[], ◌++◌, map, vec_items, sym, refl, ap, ◌∙◌, append-nil}
 use Rattle.std.proofs.lemmas.Result.{err_from_is_err_and}
-use Rattle.ledger.specs.Ledger.{view}
+use Rattle.ledger.specs.View.{view}
 use Rattle.book.specs.Acts.{act}
 use Rattle.runs.specs.Journal.{answers}
 use Rattle.runs.proofs.Runs.{law}

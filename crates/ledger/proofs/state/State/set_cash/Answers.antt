@@ -1,0 +1,11 @@
+use Rattle.std.proofs.Math.Facts.{to_z-of_z}
+use Rattle.ledger.specs.View.{view}
+use Rattle.ledger.proofs.Keeping.{sound_of}
+use Rattle.ledger.proofs.Changes.{keep_cash}
+use Rattle.ledger.proofs.state.State.set_cash.Goals as goal
+
+pub invariant_of-self : goal.invariant_of-self
+invariant_of-self c =
+    let within = rw c.place.ensures.number at c.place.ensures.within in
+    let kept = keep_cash (view c.args.self.now) c.args.account c.args.cash (sound_of c.args.self.now.kept) within c.requires in
+    record { kept = rw (c.place.ensures.number, to_z-of_z c.ranges.cash) (∣ kept ∣₁) }

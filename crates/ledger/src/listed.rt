@@ -1,0 +1,64 @@
+// What is listed at a number.
+ghost use Rattle.std.specs.Prelude.{◌≡◌};
+ghost use Rattle.ledger.specs.Ledger.{future_of, option_of, future_under};
+ghost use Rattle.ledger.specs.View.{view};
+ghost use Rattle.ledger.specs.Funds.{rate_of};
+ghost use Rattle.ledger.specs.Kept.{future_lot, FutureKept};
+
+use crate::records::Contract;
+use crate::state::State;
+use kinds::terms::{FutureTerms, OptionTerms};
+use margin::rule::FutureLot;
+
+impl State {
+    // The future listed at a number, if any; it is within the limits.
+    pub fn future_at(&self, number: u64) -> Option<Contract<FutureTerms>>
+        ensures listed { result ≡ future_of (view self.now) number }
+        ensures sound { FutureKept result }
+    {
+        match number {
+            0..4 => self.futures[number as usize],
+            _ => None,
+        }
+    }
+
+    // The option listed at a number, if any.
+    pub fn option_at(&self, number: u64) -> Option<Contract<OptionTerms>>
+        ensures { result ≡ option_of (view self.now) number }
+    {
+        match number {
+            4..20 => self.options.rows[number as usize - 4],
+            _ => None,
+        }
+    }
+
+    // The future that an option is on.
+    pub fn future_under(
+        &self,
+        option: Option<Contract<OptionTerms>>,
+    ) -> Option<Contract<FutureTerms>>
+        ensures { result ≡ future_under (view self.now) option }
+    {
+        self.future_at(u64::from(option?.terms.future))
+    }
+}
+
+impl Contract<FutureTerms> {
+    // What a margin rule is asked with for it, at its carried price.
+    pub fn lot(&self) -> FutureLot
+        ensures { result ≡ future_lot self.now }
+    {
+        FutureLot {
+            price: self.carried,
+            units: self.terms.units,
+            ratio: self.terms.ratio,
+        }
+    }
+}
+
+// The margin rate a lot, 0 where no contract is listed.
+pub fn rate<T: Drop>(contract: Option<Contract<T>>) -> u64
+    ensures { result ≡ rate_of contract }
+{
+    contract.map_or(0, |listed| listed.rate)
+}
