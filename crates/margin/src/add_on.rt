@@ -29,15 +29,15 @@ impl<R: MarginRule> AddOn<R> {
         let (addition, rule) = at_most(addition, WHOLE, (addition, rule))?;
         Ok(AddOn { addition, rule })
     }
-}
 
-// The sum and its addition, rounded up and capped.
-fn raise(sum: u64, addition: u64) -> u64
-    requires { (sum ≤ 10 ^ 12) × (addition ≤ 10000) }
-    ensures { result ≡ raised addition sum }
-{
-    let exact = sum * (WHOLE + addition);
-    exact.div_ceil(WHOLE).min(CAP)
+    // A sum of the rule below and its addition, rounded up and capped.
+    fn raise(&self, sum: u64) -> u64
+        requires { sum ≤ 10 ^ 12 }
+        ensures { result ≡ raised self.now.addition sum }
+    {
+        let exact = sum * (WHOLE + self.addition);
+        exact.div_ceil(WHOLE).min(CAP)
+    }
 }
 
 impl<R: MarginRule> MarginRule for AddOn<R> {
@@ -46,10 +46,10 @@ impl<R: MarginRule> MarginRule for AddOn<R> {
     ghost lawful = { λ x. added_lawful x.addition (R.MarginRule.meaning x.rule) (R.MarginRule.lawful x.rule) };
 
     fn future_sum(&self, future: FutureLot) -> u64 {
-        raise(self.rule.future_sum(future), self.addition)
+        self.raise(self.rule.future_sum(future))
     }
 
     fn option_sum(&self, future: FutureLot, option: OptionLot) -> u64 {
-        raise(self.rule.option_sum(future, option), self.addition)
+        self.raise(self.rule.option_sum(future, option))
     }
 }
