@@ -1,3 +1,4 @@
 pub mod Kinds
 pub mod Sides
 pub mod Moves
+pub mod Words

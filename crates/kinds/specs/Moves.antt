@@ -2,7 +2,7 @@
 use Rattle.std.specs.Prelude.{◌≡◌, ℕ, zero, suc, ◌+◌, ◌*◌, ◌^◌, ◌≤◌, ℤ, pos, negsuc, ◌-ℤ◌, ◌*ℤ◌, neg_ℤ, unsigned_abs, refl}
 use Rattle.std.proofs.Common.{ap, ◌∙◌, add-mul, arith}
 use Rattle.std.proofs.lemmas.Int.{ints}
-use Rattle.std.proofs.lemmas.Nat.{mul-le}
+use Rattle.margin.specs.Laws.{lot_most}
 use Rattle.kinds.specs.declared.terms.Holding.{Holding}
 use Rattle.kinds.specs.Kinds.{Lawful, Within, moved, future_sums, option_sums}
 
@@ -18,9 +18,6 @@ by_sign a b m (negsuc k) e =
 
 moved_is : (m from to : ℕ) → moved m from to ≡ pos (to * m) -ℤ pos (from * m)
 moved_is m from to = by_sign to from m (pos to -ℤ pos from) refl
-
-lot_most : (price units : ℕ) → price ≤ 99999999 → units ≤ 1000 → price * units ≤ 99999999000
-lot_most price units h k = mul-le price units 99999999 1000 h k
 
 apart : (m n most : ℕ) → m ≤ most → n ≤ most → unsigned_abs (pos m -ℤ pos n) ≤ most
 apart m n most h k = grind (arith, ints)

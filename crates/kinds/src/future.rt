@@ -14,7 +14,7 @@ pub struct Future;
 fn moved(units: u32, from: u32, to: u32) -> i128
     ensures { result ≡ moved units from to }
 {
-    (to as i128 - from as i128) * units as i128
+    (i128::from(to) - i128::from(from)) * i128::from(units)
 }
 
 impl ContractKind for Future {
@@ -41,6 +41,6 @@ impl ContractKind for Future {
     }
 
     fn margin(rate: u64, holding: Holding) -> u128 {
-        at_rate(holding.long as u64 + holding.short as u64, rate)
+        at_rate(u64::from(holding.long) + u64::from(holding.short), rate)
     }
 }

@@ -5,5 +5,6 @@ pub mod future;
 pub mod kind;
 pub mod option;
 pub mod rate;
+pub mod right;
 pub mod side;
 pub mod terms;

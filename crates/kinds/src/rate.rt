@@ -7,5 +7,5 @@ pub fn at_rate(lots: u64, rate: u64) -> u128
     ensures sum { result ≡ lots * rate }
     ensures bound { result ≤ 2 ^ 97 }
 {
-    lots as u128 * rate as u128
+    u128::from(lots) * u128::from(rate)
 }

@@ -1,11 +1,23 @@
 // The terms of each kind of contract, and a holding in one.
+ghost use Rattle.std.specs.Prelude.{Some};
+ghost use Rattle.kinds.specs.Words.{holding_text};
+
 use margin::rule::Right;
+use std::fmt;
 
 // The lots that an account, or an open draw, holds in one contract.
-#[derive(Clone, Copy)]
+#[derive(Clone, Copy, PartialEq, Eq, Debug)]
 pub struct Holding {
     pub long: u32,
     pub short: u32,
+}
+
+impl fmt::Display for Holding {
+    ghost output = { λ holding. Some (holding_text holding) };
+
+    fn fmt<W: fmt::Write>(&self, f: &mut fmt::Formatter<W>) -> fmt::Result {
+        write!(f, "long {} short {}", self.long, self.short)
+    }
 }
 
 // The terms of a future: units a lot, tick in fen, and the futures rate in ten-thousandths.
@@ -17,7 +29,7 @@ pub struct FutureTerms {
 }
 
 // An American option may be exercised on any day up to its last, a European one on its last day.
-#[derive(Clone, Copy)]
+#[derive(Clone, Copy, PartialEq, Eq, Debug)]
 pub enum Style {
     American,
     European,

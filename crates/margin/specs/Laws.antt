@@ -11,7 +11,7 @@ use Rattle.margin.specs.declared.rule.FutureLot.{FutureLot}
 use Rattle.margin.specs.declared.rule.OptionLot.{OptionLot}
 
 -- what the limits leave of a lot's price, of half of F, and of the cost of buying an option back
-lot_most : (price units : ℕ) → price ≤ 99999999 → units ≤ 1000 → price * units ≤ 99999999000
+pub lot_most : (price units : ℕ) → price ≤ 99999999 → units ≤ 1000 → price * units ≤ 99999999000
 lot_most price units h k = mul-le price units 99999999 1000 h k
 
 half_most : (f : FutureLot) → FutureWithin f → half_parts f ≤ 999999990000000

@@ -5,8 +5,7 @@ ghost use Rattle.margin.specs.Making.{Returned};
 ghost use Rattle.margin.specs.Laws.{added_lawful};
 
 use crate::rule::{FutureLot, MarginRule, OptionLot};
-use crate::unmade::Unmade;
-use refusals::Refusal;
+use crate::unmade::{Unmade, at_most};
 
 // Ten-thousandths that make a whole, and the largest addition.
 const WHOLE: u64 = 10_000;
@@ -17,7 +16,7 @@ const CAP: u64 = 1_000_000_000_000;
 // An addition, in ten-thousandths, to the sums of the rule below.
 #[derive(Drop)]
 pub struct AddOn<R> {
-    addition: u32,
+    addition: u64,
     ghost within: { addition ≤ 10000 },
     rule: R,
 }
@@ -27,26 +26,18 @@ impl<R: MarginRule> AddOn<R> {
     pub fn new(addition: u64, rule: R) -> Result<AddOn<R>, Unmade<(u64, R)>>
         ensures { elim result [ Ok made ↦ (addition ≤ 10000) × (made.addition ≡ addition) × (made.rule ≡ rule) | Err unmade ↦ (10000 < addition) × Returned (addition, rule) unmade ] }
     {
-        if addition > WHOLE {
-            return Err(Unmade {
-                refusal: Refusal::OutOfLimits(1),
-                given: (addition, rule),
-            });
-        }
-        Ok(AddOn {
-            addition: addition as u32,
-            rule,
-        })
+        let (addition, rule) = at_most(addition, WHOLE, (addition, rule))?;
+        Ok(AddOn { addition, rule })
     }
-}
 
-// The sum and its addition, rounded up and capped.
-fn raise(sum: u64, addition: u32) -> u64
-    requires { (sum ≤ 10 ^ 12) × (addition ≤ 10000) }
-    ensures { result ≡ raised addition sum }
-{
-    let exact = sum * (WHOLE + u64::from(addition));
-    exact.div_ceil(WHOLE).min(CAP)
+    // A sum of the rule below and its addition, rounded up and capped.
+    fn raise(&self, sum: u64) -> u64
+        requires { sum ≤ 10 ^ 12 }
+        ensures { result ≡ raised self.now.addition sum }
+    {
+        let exact = sum * (WHOLE + self.addition);
+        exact.div_ceil(WHOLE).min(CAP)
+    }
 }
 
 impl<R: MarginRule> MarginRule for AddOn<R> {
@@ -55,10 +46,10 @@ impl<R: MarginRule> MarginRule for AddOn<R> {
     ghost lawful = { λ x. added_lawful x.addition (R.MarginRule.meaning x.rule) (R.MarginRule.lawful x.rule) };
 
     fn future_sum(&self, future: FutureLot) -> u64 {
-        raise(self.rule.future_sum(future), self.addition)
+        self.raise(self.rule.future_sum(future))
     }
 
     fn option_sum(&self, future: FutureLot, option: OptionLot) -> u64 {
-        raise(self.rule.option_sum(future, option), self.addition)
+        self.raise(self.rule.option_sum(future, option))
     }
 }

@@ -6,8 +6,7 @@ ghost use Rattle.margin.specs.Laws.{flat_lawful};
 
 use crate::lots::lot_price;
 use crate::rule::{FutureLot, MarginRule, OptionLot};
-use crate::unmade::Unmade;
-use refusals::Refusal;
+use crate::unmade::{Unmade, at_most};
 
 // The largest flat sum, in fen.
 const MOST_SUM: u64 = 100_000_000_000;
@@ -24,12 +23,7 @@ impl Flat {
     pub fn new(sum: u64) -> Result<Flat, Unmade<u64>>
         ensures { elim result [ Ok made ↦ (sum ≤ 10 ^ 11) × (made.sum ≡ sum) | Err unmade ↦ (10 ^ 11 < sum) × Returned sum unmade ] }
     {
-        if sum > MOST_SUM {
-            return Err(Unmade {
-                refusal: Refusal::OutOfLimits(1),
-                given: sum,
-            });
-        }
+        let sum = at_most(sum, MOST_SUM, sum)?;
         Ok(Flat { sum })
     }
 }

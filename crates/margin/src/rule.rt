@@ -11,6 +11,7 @@ pub enum Right {
 }
 
 // A lot of a future: its price in fen a unit, its units, and the futures rate in ten-thousandths.
+// Its limits stand in the clauses below and are no ghost field: a listing is seen as a lot before they are known to hold.
 #[derive(Clone, Copy)]
 pub struct FutureLot {
     pub price: u32,

@@ -1,8 +1,12 @@
 // The refusals: every reason for which a call is turned down, with the number, the layer and the place that it is told by.
 #![tactic(auto)]
 
-ghost use Rattle.std.specs.Prelude.{◌≡◌};
+ghost use Rattle.std.specs.Prelude.{◌≡◌, Some};
 ghost use Rattle.refusals.specs.Told.{told};
+ghost use Rattle.refusals.specs.Words.{layer_word, refusal_text};
+
+use std::error::Error;
+use std::fmt;
 
 // The layer of the book that turned the call down.
 #[derive(Clone, Copy, PartialEq, Eq, Debug)]
@@ -11,6 +15,19 @@ pub enum Layer {
     Book,
     Holding,
     Funds,
+}
+
+impl fmt::Display for Layer {
+    ghost output = { λ layer. Some (layer_word layer) };
+
+    fn fmt<W: fmt::Write>(&self, f: &mut fmt::Formatter<W>) -> fmt::Result {
+        f.write_str(match self {
+            Layer::Day => "day",
+            Layer::Book => "book",
+            Layer::Holding => "holding",
+            Layer::Funds => "funds",
+        })
+    }
 }
 
 // Each case holds its place: the number of a book, an account, a contract or a request, or the rank of a field.
@@ -87,3 +104,19 @@ impl Refusal {
         }
     }
 }
+
+impl fmt::Display for Refusal {
+    ghost output = { λ refusal. Some (refusal_text refusal) };
+
+    fn fmt<W: fmt::Write>(&self, f: &mut fmt::Formatter<W>) -> fmt::Result {
+        write!(
+            f,
+            "refused {} {} {}",
+            self.number(),
+            self.layer(),
+            self.place()
+        )
+    }
+}
+
+impl Error for Refusal {}
