@@ -1,26 +1,27 @@
 // The lines of a script.
-use ledger::records::Style;
+use kinds::terms::Style;
 use margin::rule::Right;
-use script::command::{Command, Question, RuleName};
-use script::line::{Said, opens_book, read_line};
+use script::command::{BaseRule, Command, Question, RuleName};
+use script::error::ReadError;
+use script::line::{opens_book, read_line};
 use session::orders::{Deposit, OptionListing, Order};
 use std::test::Fail;
 use words::slip::Shown;
-use words::unreadable::{Unreadable, reason};
 
 fn said(rt: &HostRuntime, line: &str) -> Result<Command, Fail> {
-    match read_line(rt.alloc(), line.as_bytes())? {
-        Said::Command(command) => Ok(command),
+    match read_line(rt.alloc(), line.as_bytes()) {
+        Ok(Some(command)) => Ok(command),
         _ => Err(Fail::new(line)),
     }
 }
 
 // Why a line cannot be read.
 fn told(rt: &HostRuntime, line: &str) -> Result<&'static str, Fail> {
-    match read_line(rt.alloc(), line.as_bytes())? {
-        Said::Unreadable(why) => Ok(reason(why)),
-        Said::Command(_) => Ok("a command"),
-        Said::Nothing => Ok("nothing"),
+    match read_line(rt.alloc(), line.as_bytes()) {
+        Err(ReadError::Text(why)) => Ok(why.reason()),
+        Err(ReadError::Memory(error)) => Err(error.into()),
+        Ok(Some(_)) => Ok("a command"),
+        Ok(None) => Ok("nothing"),
     }
 }
 
@@ -70,19 +71,25 @@ fn rule(command: Command) -> (u32, u64, u64) {
     match command {
         Command::Book {
             number,
-            rule: RuleName::Standard,
+            rule: RuleName::Base(BaseRule::Standard),
         } => (number, 0, 0),
         Command::Book {
             number,
-            rule: RuleName::Flat(sum),
+            rule: RuleName::Base(BaseRule::Flat(sum)),
         } => (number, 0, sum),
         Command::Book {
             number,
-            rule: RuleName::AddOnStandard(addition),
+            rule: RuleName::AddOn {
+                addition,
+                base: BaseRule::Standard,
+            },
         } => (number, addition, 0),
         Command::Book {
             number,
-            rule: RuleName::AddOnFlat { addition, sum },
+            rule: RuleName::AddOn {
+                addition,
+                base: BaseRule::Flat(sum),
+            },
         } => (number, addition, sum),
         _ => (0, 0, 0),
     }

@@ -2,7 +2,7 @@
 use book::book::Book;
 use book::slips::TradingSlip;
 use ledger::questions::Quote;
-use ledger::records::Style;
+use kinds::terms::Style;
 use margin::add_on::AddOn;
 use margin::flat::Flat;
 use margin::rule::{MarginRule, Right};

@@ -1,5 +1,6 @@
 // Whole scripts.
-use script::reading::{Fault, Line, Reading, script};
+use script::error::ReadError;
+use script::reading::{Fault, Line, script};
 use std::alloc::Global;
 use std::test::Fail;
 
@@ -55,9 +56,10 @@ static SCRIPTS: [(&[u8], &str); 13] = [
 #[test]
 fn scripts(rt: HostRuntime) -> Result<(), Fail> {
     for (text, told) in &SCRIPTS {
-        let said = match script(rt.alloc(), text)? {
-            Reading::Lines(lines) => read(rt.alloc(), lines)?,
-            Reading::Faults(faults) => unread(rt.alloc(), faults)?,
+        let said = match script(rt.alloc(), text) {
+            Ok(lines) => read(rt.alloc(), lines)?,
+            Err(ReadError::Text(faults)) => unread(rt.alloc(), faults)?,
+            Err(ReadError::Memory(error)) => return Err(error.into()),
         };
         assert_eq!(rt; said.as_str(), *told, "{}", *told);
     }

@@ -9,7 +9,8 @@ mod statement;
 
 use anyhow::anyhow;
 use play::play;
-use script::reading::{Fault, Reading, script};
+use script::error::ReadError;
+use script::reading::{Fault, script};
 use std::io::{BufReader, BufWriter, Read, Write};
 use std::{env, fs, io};
 
@@ -41,17 +42,18 @@ fn run(rt: &HostRuntime) -> anyhow::Result<()> {
     let heap = rt.alloc();
     let text = input(rt)?;
     let mut out = BufWriter::new(heap, rt.stdout())?;
-    match script(heap, text.as_slice())? {
-        Reading::Lines(lines) => {
+    match script(heap, text.as_slice()) {
+        Ok(lines) => {
             play(&mut out, heap, lines.as_slice())?;
             out.flush()?;
             Ok(())
         }
-        Reading::Faults(faults) => {
+        Err(ReadError::Text(faults)) => {
             tell_faults(&mut out, faults.as_slice())?;
             out.flush()?;
             Err(anyhow!("the script cannot be read"))
         }
+        Err(ReadError::Memory(error)) => Err(error.into()),
     }
 }
 

@@ -8,7 +8,7 @@ use margin::flat::Flat;
 use margin::rule::MarginRule;
 use margin::standard::Standard;
 use refusals::Refusal;
-use script::command::{Command, RuleName};
+use script::command::{BaseRule, Command, RuleName};
 use script::reading::Line;
 use std::alloc::Global;
 use std::io;
@@ -89,16 +89,22 @@ fn begin<W: Write>(
 ) -> io::Result<Tally> {
     let line = first.number;
     match rule {
-        RuleName::Standard => run_book(out, heap, first, (number, Standard), rest),
-        RuleName::Flat(sum) => match Flat::new(sum) {
+        RuleName::Base(BaseRule::Standard) => run_book(out, heap, first, (number, Standard), rest),
+        RuleName::Base(BaseRule::Flat(sum)) => match Flat::new(sum) {
             Ok(flat) => run_book(out, heap, first, (number, flat), rest),
             Err(unmade) => no_rule(out, line, unmade.refusal),
         },
-        RuleName::AddOnStandard(addition) => match AddOn::new(addition, Standard) {
+        RuleName::AddOn {
+            addition,
+            base: BaseRule::Standard,
+        } => match AddOn::new(addition, Standard) {
             Ok(add_on) => run_book(out, heap, first, (number, add_on), rest),
             Err(unmade) => no_rule(out, line, unmade.refusal),
         },
-        RuleName::AddOnFlat { addition, sum } => match Flat::new(sum) {
+        RuleName::AddOn {
+            addition,
+            base: BaseRule::Flat(sum),
+        } => match Flat::new(sum) {
             Ok(flat) => match AddOn::new(addition, flat) {
                 Ok(add_on) => run_book(out, heap, first, (number, add_on), rest),
                 Err(unmade) => no_rule(out, line, unmade.refusal),

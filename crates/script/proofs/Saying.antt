@@ -1,39 +1,68 @@
--- What a line says by its words, and what a script says line by line. Assumes nothing.
-use Rattle.std.proofs.Common.{◌≡◌, ℕ, ◌+◌, ◌<◌, Bool, false, eqb, List, map, length, Some, None, IsAscii, sym, refl, ap, ◌∙◌, inl, arith, Bor}
+-- What a line says by its words. Assumes nothing.
+use Rattle.std.proofs.Common.{◌≡◌, ℕ, suc, ◌<◌, Bool, true, false, cond, eqb, List, [], ◌∷◌, map, length, get_or, Some, None, Option, Ok, Err, Result, IsAscii, MatchResult, sym, refl, ap, ◌∙◌, arith, Bor}
+use Rattle.std.specs.List.{filter, find}
+use Rattle.std.specs.Option.{option_map, option_eq, unwrap_or}
+use Rattle.std.specs.Result.{IsErrAnd}
+use Rattle.std.specs.Str.{bytes_eq, IsUtf8}
 use Rattle.std.proofs.lemmas.List.{nil_from_length, length-map}
+use Rattle.std.proofs.lemmas.Str.{IsUtf8-from_ascii}
 use Rattle.std.proofs.lemmas.Bool.Decides.{nat_tests}
-use Rattle.words.specs.Cuts.{before, after}
-use Rattle.words.specs.Words.{bytes}
+use Rattle.words.specs.Words.{◌>>=◌, bytes}
 use Rattle.words.specs.declared.unreadable.Unreadable.{Unreadable}
+use Rattle.words.specs.declared.unreadable.Unreadable.TheVariants.{NotAscii}
 use Rattle.script.specs.declared.command.Command.{Command}
-use Rattle.script.specs.declared.line.Said.{Said}
-use Rattle.script.specs.declared.line.Said.TheVariants as says
+use Rattle.script.specs.declared.error.ReadError.{ReadError}
+use Rattle.script.specs.declared.error.ReadError.TheVariants.{Text}
 use Rattle.script.specs.Commands.{command_of}
-use Rattle.script.specs.Lines.{parts, words_of, opens_book_of}
-use Rattle.script.specs.Readings.{Says, Read, taken, Reads}
-use Rattle.script.proofs.Spaces.{first_part}
+use Rattle.script.specs.Lines.{words_of}
+use Rattle.script.specs.Readings.{Gives, is_plain, worded, says_of}
+
+kept : (b : Bool) (part : List ℕ) (parts : List (List ℕ)) (found : Option (List ℕ)) → get_or parts 0 [] ≡ unwrap_or found [] → get_or (cond b (part ∷ parts) parts) 0 [] ≡ unwrap_or (cond b (Some part) found) []
+kept true part parts found e = refl
+kept false part parts found e = e
+
+first_kept : (t : List ℕ → Bool) (parts : List (List ℕ)) → get_or (filter t parts) 0 [] ≡ unwrap_or (find t parts) []
+first_kept t [] = refl
+first_kept t (part ∷ parts) = kept (t part) part (filter t parts) (find t parts) (first_kept t parts)
+
+-- that `find` finds a word is that it is the first one kept
+pub first_word_is : (t : List ℕ → Bool) (parts : List (List ℕ)) (r : Option (Bor (List ℕ))) (book : Bor (List ℕ)) (word : List ℕ) → option_map (λ x. x.now) r ≡ find t parts → book.now ≡ word → bytes_eq [] word ≡ false → option_eq (λ x y. bytes_eq x.now y.now) r (Some book) ≡ bytes_eq (get_or (filter t parts) 0 []) word
+first_word_is t parts None book word h same e = rw (first_kept t parts, ← h) (sym e)
+first_word_is t parts (Some x) book word h same e = rw (first_kept t parts, ← h, same) refl
+
+-- a line of ASCII is plain text
+pub plain : (line : List ℕ) → IsAscii line → is_plain line ≡ true
+plain [] h = refl
+plain (b ∷ bs) h = grind (arith, nat_tests, h 0, plain bs (λ i. h (suc i)))
+
+pub text_read : {E : Type 0} (line : List ℕ) (r : Result (Bor (List ℕ)) E) (s : Result (Bor (List ℕ)) Unreadable) (Valid : Bor (List ℕ) → Type 0) (Fault Made : E → Type 0) → IsAscii line → MatchResult r (λ x. s ≡ Ok x) Made → MatchResult r (λ x. (x.now ≡ line) × Valid x) (λ e. (IsUtf8 line → ⊥) × Fault e) → MatchResult s (λ text. (is_plain line ≡ true) × (text.now ≡ line)) (λ why. (is_plain line ≡ false) × (why ≡ NotAscii))
+text_read line (Ok x) s Valid Fault Made ascii e h = rw e (plain line ascii, h.0)
+text_read line (Err e) s Valid Fault Made ascii m h = absurd (h.0 (IsUtf8-from_ascii line ascii))
+
+pub gives_why : {read : Result (Option Command) Unreadable} (r : Result (Option Command) (ReadError Unreadable)) (why : Unreadable) → IsErrAnd r (λ e. e ≡ Text why) → read ≡ Err why → Gives (λ said. said) (λ why. why) r read
+gives_why (Ok x) why h e = absurd h
+gives_why (Err x) why h e = rw h e
+
+pub not_plain : (line : List ℕ) → is_plain line ≡ false → says_of line ≡ Err NotAscii
+not_plain line e = rw e refl
 
 pub some_left : (n : ℕ) → false ≡ eqb n 0 → 0 < n
 some_left n e = grind (arith, nat_tests)
 
+said_words : (words : List (List ℕ)) → 0 < length words → worded words ≡ (command_of words >>= λ c. Ok (Some c))
+said_words [] h = absurd (omega arith)
+said_words (word ∷ words) h = refl
+
 -- a line of plain text, whose words are found
-module _ (line text : List ℕ) (found : List (Bor (List ℕ))) (plain : IsAscii line) (same : text ≡ line) (words : map bytes found ≡ words_of text) where
-  all_words : map bytes found ≡ words_of line
-  all_words = words ∙ ap words_of same
+module _ (line text : List ℕ) (found : List (Bor (List ℕ))) (ascii : is_plain line ≡ true) (same : text ≡ line) (words : map bytes found ≡ words_of text) where
+  by_words : says_of line ≡ worded (map bytes found)
+  by_words = rw ascii (ap worded (sym (words ∙ ap words_of same)))
 
-  pub says_nothing : length found ≡ 0 → Says line says.Nothing
-  says_nothing none = inl (plain, sym all_words ∙ ap (map bytes) (nil_from_length found none))
+  pub says_nothing : length found ≡ 0 → says_of line ≡ Ok None
+  says_nothing none = by_words ∙ ap (λ l. worded (map bytes l)) (nil_from_length found none)
 
-  pub says_command : (slice : List (Bor (List ℕ))) (command : Command) → slice ≡ found → Some command ≡ command_of (map bytes slice) → Says line (says.Command command)
-  says_command slice command e h = inl (plain, ap command_of (sym (ap (map bytes) e ∙ all_words)) ∙ sym h)
+  pub says_what : (slice : List (Bor (List ℕ))) (read : Result Command Unreadable) → 0 < length found → slice ≡ found → read ≡ command_of (map bytes slice) → says_of line ≡ (read >>= λ c. Ok (Some c))
+  says_what slice read some e h = by_words ∙ said_words (map bytes found) (omega (arith, length-map found bytes)) ∙ ap (λ r. r >>= λ c. Ok (Some c)) (sym (h ∙ ap (λ l. command_of (map bytes l)) e))
 
-  pub says_not : (slice : List (Bor (List ℕ))) (why : Unreadable) → 0 < length found → slice ≡ found → None ≡ command_of (map bytes slice) → Says line (says.Unreadable why)
-  says_not slice why some e h =
-      let long : 0 < length (words_of line) = omega (arith, ap length all_words, length-map found bytes) in
-      inl (plain, (long, ap command_of (sym (ap (map bytes) e ∙ all_words)) ∙ sym h))
-
-pub next_line : (number : ℕ) (read later end : Read) (rest line left : List ℕ) (said : Said) (is-book : Bool) → 0 < length rest → line ≡ before 10 rest → left ≡ after 10 rest → Says line said → is-book ≡ opens_book_of line → later ≡ taken (number + 1) said is-book read → Reads (number + 1) later (parts 10 left) end → Reads number read (parts 10 rest) end
-next_line number read later end rest line left said is-book some e f says b l h = rw (first_part 10 rest some, ← e, ← f) (said, says, rw (← b, ← l) h)
-
-pub no_line : (number : ℕ) (read : Read) (rest : List ℕ) → length rest ≡ 0 → Reads number read (parts 10 rest) read
-no_line number read rest e = rw (nil_from_length rest e) refl
+  pub says_why : (slice : List (Bor (List ℕ))) (why : Unreadable) → 0 < length found → slice ≡ found → Err why ≡ command_of (map bytes slice) → says_of line ≡ Err why
+  says_why slice why some e h = says_what slice (Err why) some e h

@@ -1,5 +1,5 @@
 -- Where the book is made among the commands of a script. Assumes nothing.
-use Rattle.std.specs.Prelude.{Some, None, Option}
+use Rattle.std.specs.Prelude.{Ok, Err, Result}
 use Rattle.script.specs.declared.command.Command.{Command}
 use Rattle.script.specs.declared.command.Command.TheVariants.{Book, Call, Ask}
 use Rattle.script.specs.declared.opening.Start.{Start}
@@ -8,22 +8,22 @@ use Rattle.words.specs.declared.unreadable.Unreadable.{Unreadable}
 use Rattle.words.specs.declared.unreadable.Unreadable.TheVariants.{NoBook, LateBook, SecondBook}
 
 -- a book may stand only where it is awaited
-abbrev pub late_book : Start → Option Unreadable
-late_book Awaited = None
-late_book Made = Some SecondBook
-late_book Missed = Some LateBook
+abbrev pub late_book : Start → Result (Unit {0}) Unreadable
+late_book Awaited = Ok tt
+late_book Made = Err SecondBook
+late_book Missed = Err LateBook
 
 -- and any other command only where it is not
-abbrev pub early : Start → Option Unreadable
-early Awaited = Some NoBook
-early Made = None
-early Missed = None
+abbrev pub early : Start → Result (Unit {0}) Unreadable
+early Awaited = Err NoBook
+early Made = Ok tt
+early Missed = Ok tt
 
--- why a command may not stand where it does
-abbrev pub misplaced_of : Command → Start → Option Unreadable
-misplaced_of (Book number rule) start = late_book start
-misplaced_of (Call slip order) start = early start
-misplaced_of (Ask question) start = early start
+-- that a command may stand where it does, or why not
+abbrev pub well_placed_of : Command → Start → Result (Unit {0}) Unreadable
+well_placed_of (Book number rule) start = late_book start
+well_placed_of (Call slip order) start = early start
+well_placed_of (Ask question) start = early start
 
 -- the first command decides, and no later one
 abbrev pub unless_awaited : Start → Start → Start

@@ -2,13 +2,18 @@
 use session::orders::Order;
 use words::slip::Shown;
 
-// The margin rule that a book is made with; sums in fen.
+// A margin rule with no addition; sums in fen.
 #[derive(Clone, Copy)]
-pub enum RuleName {
+pub enum BaseRule {
     Standard,
     Flat(u64),
-    AddOnStandard(u64),
-    AddOnFlat { addition: u64, sum: u64 },
+}
+
+// The margin rule that a book is made with.
+#[derive(Clone, Copy)]
+pub enum RuleName {
+    Base(BaseRule),
+    AddOn { addition: u64, base: BaseRule },
 }
 
 #[derive(Clone, Copy)]

@@ -2,6 +2,7 @@
 #![tactic(auto)]
 
 pub mod command;
+pub mod error;
 pub mod line;
 pub mod opening;
 pub mod parser;

@@ -1,6 +1,6 @@
 // The making of the book, which comes first in a script and once.
 ghost use Rattle.std.specs.Prelude.{◌≡◌};
-ghost use Rattle.script.specs.Places.{misplaced_of, start_after};
+ghost use Rattle.script.specs.Places.{well_placed_of, start_after};
 
 use crate::command::Command;
 use words::unreadable::Unreadable;
@@ -13,16 +13,16 @@ pub enum Start {
     Missed,
 }
 
-// Why a command may not stand where it does.
-pub fn misplaced(command: Command, start: Start) -> Option<Unreadable>
-    ensures { result ≡ misplaced_of command start }
+// Whether a command may stand where it does, or why not.
+pub fn well_placed(command: Command, start: Start) -> Result<(), Unreadable>
+    ensures { result ≡ well_placed_of command start }
 {
     match (command, start) {
-        (Command::Book { .. }, Start::Awaited) => None,
-        (Command::Book { .. }, Start::Made) => Some(Unreadable::SecondBook),
-        (Command::Book { .. }, Start::Missed) => Some(Unreadable::LateBook),
-        (_, Start::Awaited) => Some(Unreadable::NoBook),
-        (_, _) => None,
+        (Command::Book { .. }, Start::Awaited) => Ok(()),
+        (Command::Book { .. }, Start::Made) => Err(Unreadable::SecondBook),
+        (Command::Book { .. }, Start::Missed) => Err(Unreadable::LateBook),
+        (_, Start::Awaited) => Err(Unreadable::NoBook),
+        (_, _) => Ok(()),
     }
 }
 

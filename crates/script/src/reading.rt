@@ -1,10 +1,11 @@
 // A whole script, which is read before anything of it is carried out.
-ghost use Rattle.std.specs.Prelude.{◌≡◌, IfOk, OnOk};
-ghost use Rattle.script.specs.Readings.{told_first_of, read_by, taken, lacks_book_of, Tells, ScriptSays};
+ghost use Rattle.std.specs.Prelude.{◌≡◌, OnOk};
+ghost use Rattle.script.specs.Readings.{told_first_of, read_by, taken, lacks_book_of, told, Gives, script_of};
 
 use crate::command::Command;
-use crate::line::{Said, first_line, opens_book, read_line};
-use crate::opening::{Start, begun, misplaced};
+use crate::error::ReadError;
+use crate::line::{opens_book, read_line};
+use crate::opening::{Start, begun, well_placed};
 use std::alloc::{AllocError, Global};
 use words::unreadable::Unreadable;
 
@@ -22,13 +23,6 @@ pub struct Fault {
     pub why: Unreadable,
 }
 
-// What a script says, or each line of it that cannot be read, in rising order.
-#[derive(Drop)]
-pub enum Reading {
-    Lines(Vec<Line>),
-    Faults(Vec<Fault>),
-}
-
 // What has been read so far.
 #[derive(Drop)]
 struct Reader {
@@ -41,32 +35,32 @@ struct Reader {
 fn told_first(faults: &[Fault]) -> bool
     ensures { result ≡ told_first_of faults.now }
 {
-    match faults.first() {
-        Some(fault) => fault.line == 1,
-        None => false,
-    }
+    faults.first().is_some_and(|fault| fault.line == 1)
 }
 
 impl Reader {
     // Takes in what a line says. A `book` line that cannot be read is told once: the book is not told as missing too.
-    fn take(&mut self, number: u64, said: Said, is_book: bool) -> Result<(), AllocError>
-        ensures { OnOk result (read_by self.new ≡ taken number said is_book (read_by self.old)) }
+    fn take(&mut self, heap: Global, number: u64, line: &[u8]) -> Result<(), AllocError>
+        ensures { OnOk result (read_by self.new ≡ taken number line.now (read_by self.old)) }
     {
-        match said {
-            Said::Nothing => {}
-            Said::Command(command) => {
-                match misplaced(command, self.start) {
-                    None => self.lines.push(Line { number, command })?,
-                    Some(why) => self.faults.push(Fault { line: number, why })?,
+        match read_line(heap, line) {
+            Ok(None) => {}
+            Ok(Some(command)) => {
+                match well_placed(command, self.start) {
+                    Ok(()) => self.lines.push(Line { number, command })?,
+                    Err(why) => self.faults.push(Fault { line: number, why })?,
                 }
                 self.start = begun(command, self.start);
             }
-            Said::Unreadable(why) => {
+            Err(ReadError::Text(why)) => {
                 self.faults.push(Fault { line: number, why })?;
-                if is_book && let Start::Awaited = self.start {
+                if opens_book(line)
+                    && let Start::Awaited = self.start
+                {
                     self.start = Start::Made;
                 }
             }
+            Err(ReadError::Memory(memory)) => return Err(memory),
         }
         Ok(())
     }
@@ -81,9 +75,9 @@ impl Reader {
         }
     }
 
-    // All that was read; a missing book is the first fault.
-    fn end(mut self) -> Result<Reading, AllocError>
-        ensures { IfOk result (λ reading. Tells (read_by self) reading) }
+    // The commands, or each line that cannot be read, in rising order; a missing book is the first fault.
+    fn end(mut self) -> Result<Vec<Line>, ReadError<Vec<Fault>>>
+        ensures { Gives (λ lines. lines.items) (λ faults. faults.items) result (told (read_by self)) }
     {
         if self.lacks_book() {
             self.faults.insert(
@@ -100,29 +94,24 @@ impl Reader {
             faults,
         } = self;
         if faults.is_empty() {
-            Ok(Reading::Lines(lines))
+            Ok(lines)
         } else {
-            Ok(Reading::Faults(faults))
+            Err(ReadError::Text(faults))
         }
     }
 }
 
-// Reads a script; any bytes may be handed in.
-pub fn script(heap: Global, text: &[u8]) -> Result<Reading, AllocError>
-    ensures { IfOk result (λ reading. ScriptSays text.now reading) }
+// The commands of a script, or each line of it that cannot be read, in rising order; any bytes may be handed in.
+pub fn script(heap: Global, text: &[u8]) -> Result<Vec<Line>, ReadError<Vec<Fault>>>
+    ensures { Gives (λ lines. lines.items) (λ faults. faults.items) result (script_of text.now) }
 {
     let mut reader = Reader {
         start: Start::Awaited,
         lines: Vec::new(heap),
         faults: Vec::new(heap),
     };
-    let mut rest = text;
-    let mut number = 0;
-    while !rest.is_empty() {
-        let (line, after) = first_line(rest);
-        number += 1;
-        reader.take(number, read_line(heap, line)?, opens_book(line))?;
-        rest = after;
+    for (index, line) in text.split(|byte| *byte == b'\n').enumerate() {
+        reader.take(heap, index as u64 + 1, line)?;
     }
     reader.end()
 }

@@ -1,12 +1,11 @@
 -- A text cut at the first byte of a kind. Assumes nothing.
-use Rattle.std.specs.Prelude.{ℕ, cond, List, [], ◌∷◌, ◌==◌}
+use Rattle.std.specs.Prelude.{ℕ, List, ◌==◌}
+use Rattle.std.specs.List.{before_first, after_first}
 
 -- what stands before the first `mark`, or all where there is none
 abbrev pub before : ℕ → List ℕ → List ℕ
-before mark [] = []
-before mark (b ∷ bs) = cond (b == mark) [] (b ∷ before mark bs)
+before mark text = before_first (λ b. b == mark) text
 
 -- what stands after it, or nothing where there is none
 abbrev pub after : ℕ → List ℕ → List ℕ
-after mark [] = []
-after mark (b ∷ bs) = cond (b == mark) bs (after mark bs)
+after mark text = after_first (λ b. b == mark) text

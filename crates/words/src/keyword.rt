@@ -1,11 +1,11 @@
 // The words that a script's commands are spelt with, in lower case.
 ghost use Rattle.std.specs.Prelude.{◌≡◌};
-ghost use Rattle.std.specs.Result.{result_ok};
 ghost use Rattle.words.specs.Reasons.{unknown_of};
 ghost use Rattle.words.specs.Keywords.{opening_of, right_of, style_of, rule_word_of};
 
 use crate::unreadable::Unreadable;
-use ledger::records::Style;
+use crate::word::Word;
+use kinds::terms::Style;
 use margin::rule::Right;
 
 // A call of the session.
@@ -57,56 +57,64 @@ fn unknown(word: &str) -> Unreadable
     }
 }
 
-pub fn opens(word: &str) -> Result<Opening, Unreadable>
-    ensures { result_ok result ≡ opening_of word.now }
-{
-    match word {
-        "book" => Ok(Opening::Book),
-        "deposit" => Ok(Opening::Call(CallWord::Deposit)),
-        "withdraw" => Ok(Opening::Call(CallWord::Withdraw)),
-        "future" => Ok(Opening::Call(CallWord::Future)),
-        "option" => Ok(Opening::Call(CallWord::Option)),
-        "cash" => Ok(Opening::Question(QuestionWord::Cash)),
-        "margin" => Ok(Opening::Question(QuestionWord::Margin)),
-        "frozen" => Ok(Opening::Question(QuestionWord::Frozen)),
-        "available" => Ok(Opening::Question(QuestionWord::Available)),
-        "holding" => Ok(Opening::Question(QuestionWord::Holding)),
-        "contract" => Ok(Opening::Question(QuestionWord::Contract)),
-        "drawlots" => Ok(Opening::Question(QuestionWord::DrawLots)),
-        "drawcash" => Ok(Opening::Question(QuestionWord::DrawCash)),
-        "day" => Ok(Opening::Question(QuestionWord::Day)),
-        "statement" => Ok(Opening::Question(QuestionWord::Statement)),
-        _ => Err(unknown(word)),
+impl Word for Opening {
+    ghost meaning = { opening_of };
+
+    fn read(word: &str) -> Result<Opening, Unreadable> {
+        match word {
+            "book" => Ok(Opening::Book),
+            "deposit" => Ok(Opening::Call(CallWord::Deposit)),
+            "withdraw" => Ok(Opening::Call(CallWord::Withdraw)),
+            "future" => Ok(Opening::Call(CallWord::Future)),
+            "option" => Ok(Opening::Call(CallWord::Option)),
+            "cash" => Ok(Opening::Question(QuestionWord::Cash)),
+            "margin" => Ok(Opening::Question(QuestionWord::Margin)),
+            "frozen" => Ok(Opening::Question(QuestionWord::Frozen)),
+            "available" => Ok(Opening::Question(QuestionWord::Available)),
+            "holding" => Ok(Opening::Question(QuestionWord::Holding)),
+            "contract" => Ok(Opening::Question(QuestionWord::Contract)),
+            "drawlots" => Ok(Opening::Question(QuestionWord::DrawLots)),
+            "drawcash" => Ok(Opening::Question(QuestionWord::DrawCash)),
+            "day" => Ok(Opening::Question(QuestionWord::Day)),
+            "statement" => Ok(Opening::Question(QuestionWord::Statement)),
+            _ => Err(unknown(word)),
+        }
     }
 }
 
-pub fn right(word: &str) -> Result<Right, Unreadable>
-    ensures { result_ok result ≡ right_of word.now }
-{
-    match word {
-        "call" => Ok(Right::Call),
-        "put" => Ok(Right::Put),
-        _ => Err(unknown(word)),
+impl Word for Right {
+    ghost meaning = { right_of };
+
+    fn read(word: &str) -> Result<Right, Unreadable> {
+        match word {
+            "call" => Ok(Right::Call),
+            "put" => Ok(Right::Put),
+            _ => Err(unknown(word)),
+        }
     }
 }
 
-pub fn style(word: &str) -> Result<Style, Unreadable>
-    ensures { result_ok result ≡ style_of word.now }
-{
-    match word {
-        "american" => Ok(Style::American),
-        "european" => Ok(Style::European),
-        _ => Err(unknown(word)),
+impl Word for Style {
+    ghost meaning = { style_of };
+
+    fn read(word: &str) -> Result<Style, Unreadable> {
+        match word {
+            "american" => Ok(Style::American),
+            "european" => Ok(Style::European),
+            _ => Err(unknown(word)),
+        }
     }
 }
 
-pub fn rule_word(word: &str) -> Result<RuleWord, Unreadable>
-    ensures { result_ok result ≡ rule_word_of word.now }
-{
-    match word {
-        "standard" => Ok(RuleWord::Standard),
-        "flat" => Ok(RuleWord::Flat),
-        "addon" => Ok(RuleWord::AddOn),
-        _ => Err(unknown(word)),
+impl Word for RuleWord {
+    ghost meaning = { rule_word_of };
+
+    fn read(word: &str) -> Result<RuleWord, Unreadable> {
+        match word {
+            "standard" => Ok(RuleWord::Standard),
+            "flat" => Ok(RuleWord::Flat),
+            "addon" => Ok(RuleWord::AddOn),
+            _ => Err(unknown(word)),
+        }
     }
 }

@@ -9,10 +9,7 @@ pub fn number(word: &str, most: u64) -> Option<u64>
     if word.starts_with('+') {
         return None;
     }
-    match word.parse::<u64>() {
-        Ok(value) if value <= most => Some(value),
-        _ => None,
-    }
+    word.parse::<u64>().ok().filter(|value| *value <= most)
 }
 
 // A number of a book or a day: at most 2^32 - 1.

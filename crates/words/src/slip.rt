@@ -18,7 +18,7 @@ fn parts(word: &str) -> Option<(&str, &str)>
     word.strip_prefix('@')?.split_once('.')
 }
 
-// The slip that `@BOOK.DAY` writes.
+// The slip that `@BOOK.DAY` writes. No `FromStr`: a word that is no slip is no error, since it may open a command that shows none.
 pub fn slip(word: &str) -> Option<Shown>
     ensures { result ≡ slip_of word.now }
 {

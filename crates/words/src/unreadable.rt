@@ -18,21 +18,23 @@ pub enum Unreadable {
     NotAscii,
 }
 
-// The reason in plain words.
-pub fn reason(why: Unreadable) -> &'static str
-    ensures { result.now ≡ reason_of why }
-{
-    match why {
-        Unreadable::UnknownWord => "unknown word",
-        Unreadable::MissingWord => "a word is missing",
-        Unreadable::ExtraWord => "a word too many",
-        Unreadable::NotNumber => "not a number that fits",
-        Unreadable::NotSlip => "not a slip",
-        Unreadable::NoSlipHere => "no slip here",
-        Unreadable::NoBook => "no book is made",
-        Unreadable::LateBook => "the book is made too late",
-        Unreadable::SecondBook => "a second book",
-        Unreadable::NotAscii => "not plain text",
+impl Unreadable {
+    // The reason in plain words.
+    pub fn reason(self) -> &'static str
+        ensures { result.now ≡ reason_of self }
+    {
+        match self {
+            Unreadable::UnknownWord => "unknown word",
+            Unreadable::MissingWord => "a word is missing",
+            Unreadable::ExtraWord => "a word too many",
+            Unreadable::NotNumber => "not a number that fits",
+            Unreadable::NotSlip => "not a slip",
+            Unreadable::NoSlipHere => "no slip here",
+            Unreadable::NoBook => "no book is made",
+            Unreadable::LateBook => "the book is made too late",
+            Unreadable::SecondBook => "a second book",
+            Unreadable::NotAscii => "not plain text",
+        }
     }
 }
 
@@ -40,6 +42,6 @@ impl fmt::Display for Unreadable {
     ghost output = { λ why. Some (reason_of why) };
 
     fn fmt<W: fmt::Write>(&self, f: &mut fmt::Formatter<W>) -> fmt::Result {
-        f.write_str(reason(*self))
+        f.write_str(self.reason())
     }
 }

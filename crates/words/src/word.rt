@@ -1,20 +1,20 @@
 // The words of a command by place; the word that it opens with stands at 0.
-ghost use Rattle.std.specs.Prelude.{◌≡◌, [], map, slice_index_or};
-ghost use Rattle.std.specs.Result.{result_ok};
+ghost use Rattle.std.specs.Prelude.{◌≡◌, ℕ, List, Result, map};
 ghost use Rattle.words.specs.Reasons.{unfit_of};
-ghost use Rattle.words.specs.Words.{bytes, short_number_at, number_at, only};
+ghost use Rattle.words.specs.Numbers.{number_of};
+ghost use Rattle.words.specs.Words.{bytes, at, only};
+ghost use Rattle.words.specs.declared.unreadable.Unreadable.{Unreadable as why};
 
 use crate::number::{number, short_number};
 use crate::unreadable::Unreadable;
 
-// The word at a place; a missing one is empty, which no word of a line is.
-pub fn word_at<'a>(words: &[&'a str], place: usize) -> &'a str
-    ensures { result.now ≡ slice_index_or (map bytes words.now) place [] }
-{
-    match words.get(place) {
-        Some(word) => *word,
-        None => "",
-    }
+// What can stand as one word of a command.
+pub trait Word: Sized {
+    // What a word means, or why it means nothing of this kind.
+    ghost meaning: { List ℕ → Result Self why };
+
+    fn read(word: &str) -> Result<Self, Unreadable>
+        ensures { result ≡ meaning word.now };
 }
 
 // Why a word is no number.
@@ -28,24 +28,40 @@ fn unfit(word: &str) -> Unreadable
     }
 }
 
-pub fn number_at(words: &[&str], place: usize) -> Result<u64, Unreadable>
-    ensures { result_ok result ≡ number_at (map bytes words.now) place }
-{
-    let word = word_at(words, place);
-    number(word, u64::MAX).ok_or(unfit(word))
+impl Word for u64 {
+    ghost meaning = { number_of 18446744073709551615 };
+
+    fn read(word: &str) -> Result<u64, Unreadable> {
+        number(word, u64::MAX).ok_or(unfit(word))
+    }
 }
 
 // The number of a book.
-pub fn short_number_at(words: &[&str], place: usize) -> Result<u32, Unreadable>
-    ensures { result_ok result ≡ short_number_at (map bytes words.now) place }
+impl Word for u32 {
+    ghost meaning = { number_of 4294967295 };
+
+    fn read(word: &str) -> Result<u32, Unreadable> {
+        short_number(word).ok_or(unfit(word))
+    }
+}
+
+// The word at a place; a missing one is empty, which no word of a line is.
+pub fn word_at<'a>(words: &[&'a str], place: usize) -> &'a str
+    ensures { result.now ≡ at (map bytes words.now) place }
 {
-    let word = word_at(words, place);
-    short_number(word).ok_or(unfit(word))
+    words.get(place).copied().unwrap_or("")
+}
+
+// What the word at a place means.
+pub fn read_at<W: Word>(words: &[&str], place: usize) -> Result<W, Unreadable>
+    ensures { result ≡ W.meaning (at (map bytes words.now) place) }
+{
+    W::read(word_at(words, place))
 }
 
 // A command of `count` words has no word more.
 pub fn end(words: &[&str], count: usize) -> Result<(), Unreadable>
-    ensures { result_ok result ≡ only (map bytes words.now) count }
+    ensures { result ≡ only (map bytes words.now) count }
 {
     if words.len() > count {
         return Err(Unreadable::ExtraWord);

@@ -1,20 +1,12 @@
-use Rattle.std.proofs.Common.{[], ◌∷◌, codes, ◌∙◌}
-use Rattle.std.proofs.lemmas.Slice.Eq.{strip_prefix_is}
-use Rattle.std.proofs.lemmas.Option.{MatchOption-at_some, MatchOption-at_none}
-use Rattle.script.proofs.BookWord.{opens, opens_not}
+use Rattle.std.proofs.Common.{length, eqb, not, codes, refl, ◌∙◌, rules, tests}
+use Rattle.std.proofs.lemmas.Iterator.Search.{find_from_yields_List}
+use Rattle.std.proofs.lemmas.Iterator.Splits.{YieldsList-from_slice_split}
+use Rattle.std.specs.List.{slice_split}
+use Rattle.words.specs.Cuts.{before}
+use Rattle.script.proofs.Saying.{first_word_is}
 use Rattle.script.proofs.line.opens_book.Goals as goal
-use Rattle.std.proofs.lemmas.Bool.Decides.{Decides-eqb}
 
-pub returns-in-Some-strip_prefix : goal.returns-in-Some-strip_prefix
-returns-in-Some-strip_prefix c =
-    let rest = c.loop-after.rest.now in
-    let begins = MatchOption-at_none _ _ c.in_default.is (strip_prefix_is Decides-eqb rest (32 ∷ []) _ c.strip_prefix.ensures.cases) in
-    let is = MatchOption-at_some _ _ _ c.in-Some-strip_prefix.is (strip_prefix_is Decides-eqb rest (codes "book") _ c.strip_prefix-2.ensures.cases) in
-    c.ends_word.ensures ∙ opens c.args.line.now rest c.loop-after.invariant begins _ is
-
-pub returns-in-None : goal.returns-in-None
-returns-in-None c =
-    let rest = c.loop-after.rest.now in
-    let begins = MatchOption-at_none _ _ c.in_default.is (strip_prefix_is Decides-eqb rest (32 ∷ []) _ c.strip_prefix.ensures.cases) in
-    let is = MatchOption-at_none _ _ c.in-None.is (strip_prefix_is Decides-eqb rest (codes "book") _ c.strip_prefix-2.ensures.cases) in
-    opens_not c.args.line.now rest c.loop-after.invariant begins is
+pub returns : goal.returns
+returns c =
+    let found = find_from_yields_List (λ w. not (eqb (length w) 0)) _ _ _ c.find.ensures.ran (YieldsList-from_slice_split _ (λ b. eqb b 32) (before 35 c.args.line.now) (c.split.ensures.rest ∙ c.said.ensures) c.split.ensures.done c.split.ensures.closure (λ x r q k. search (rules, tests))) (λ x b q k. search (rules, tests)) in
+    c.eq.ensures ∙ first_word_is (λ w. not (eqb (length w) 0)) (slice_split (λ b. eqb b 32) (before 35 c.args.line.now)) _ _ (codes "book") found c.as_slice.ensures refl

@@ -1,8 +1,10 @@
-use Rattle.script.proofs.Spaces.{word_taken, space_passed}
+use Rattle.std.proofs.Common.{◌∙◌, rules, tests, lit<}
+use Rattle.std.proofs.lemmas.Iterator.Consumers.{map_from_collect, YieldsList-from_filter, YieldsList-at}
+use Rattle.std.proofs.lemmas.Iterator.Splits.{YieldsList-from_str_split}
+use Rattle.words.specs.Cuts.{before}
 use Rattle.script.proofs.line.words.Goals as goal
 
-pub loop-word-preserved-in-Continue-1 : goal.loop-word-preserved-in-Continue-1
-loop-word-preserved-in-Continue-1 c = word_taken _ _ c.loop-word.word-iterator c.next.new.self c.in-Some.word _ c.loop-word.invariant c.in-Some.ensures.steps c.if-not-is_empty.ensures c.in_ok-push.ensures.items
-
-pub loop-word-preserved : goal.loop-word-preserved
-loop-word-preserved c = space_passed _ c.loop-word.word-iterator c.next.new.self c.in-Some.word _ c.loop-word.invariant c.in-Some.ensures.steps c.if-not-is_empty.ensures
+pub returns : goal.returns
+returns c =
+    let parts = YieldsList-from_str_split 32 (before 35 c.args.line.now) (lit< tt) (c.split.ensures.text ∙ c.before_comment.ensures) c.split.ensures.has_more c.split.ensures.pattern in
+    map_from_collect _ c.collect.ensures.ran (YieldsList-from_filter _ _ (YieldsList-at c.filter.ensures.source parts) c.filter.ensures.closure (λ x r q k. search (rules, tests)))

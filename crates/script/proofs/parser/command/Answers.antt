@@ -1,9 +1,6 @@
 use Rattle.std.proofs.Common.{◌∙◌}
-use Rattle.script.proofs.FirstWord.{no_word, no_slip}
+use Rattle.script.proofs.FirstWord.{no_slip}
 use Rattle.script.proofs.parser.command.Goals as goal
-
-pub returns-in_default : goal.returns-in_default
-returns-in_default c = no_word c.args.words.now c.in_default.ensures.cases
 
 pub returns-in-None : goal.returns-in-None
 returns-in-None c = c.plain_command.ensures ∙ no_slip c.args.words.now _ _ c.in-Some.ensures.cases.0 c.in-None.ensures

@@ -1,22 +1,20 @@
-use Rattle.std.proofs.Common.{◌<◌, length, sym, arith}
-use Rattle.std.proofs.lemmas.Result.{IfOk-weaker}
-use Rattle.std.proofs.lemmas.Bool.{eqb-true}
-use Rattle.script.specs.Readings.{read_by, Tells, ScriptSays}
-use Rattle.script.proofs.Saying.{some_left, next_line, no_line}
+use Rattle.std.proofs.Common.{eqb, length, rules, tests}
+use Rattle.std.specs.List.{slice_split}
+use Rattle.std.proofs.lemmas.Iterator.Consumers.{YieldsList-at, YieldsList-from_enumerate, YieldsList-turn, YieldsList-end}
+use Rattle.std.proofs.lemmas.Iterator.Splits.{YieldsList-from_slice_split}
+use Rattle.script.specs.Readings.{read_by}
+use Rattle.script.proofs.Parts.{next_line, numbered, all_lines}
 use Rattle.script.proofs.reading.script.Goals as goal
 
-pub loop-rest-preserved : goal.loop-rest-preserved
-loop-rest-preserved c =
-    let rest = c.loop-rest.rest.now in
-    let some : 0 < length rest = some_left _ c.loop-rest-test.ensures in
-    let line = c.first_line.ensures in
-    let said = c.in_ok-read_line.field-0 in (
-      omega (arith, c.loop-rest.invariant.0, line.shorter some),
-      λ end h. c.loop-rest.invariant.1 end (next_line c.loop-rest.number (read_by c.loop-rest.reader) (read_by c.take.new.self) end rest _ _ said _ some line.line line.rest c.in_ok-read_line.ensures c.opens_book.ensures c.in_ok-take.ensures h),
-    )
+pub loop-index-preserved : goal.loop-index-preserved
+loop-index-preserved c =
+    let text = c.args.text.now in
+    let turn = YieldsList-turn (YieldsList-at c.into_iter-index-iterator.ensures.into_iter_gives (YieldsList-from_enumerate (YieldsList-at c.enumerate-index-items.ensures.source (YieldsList-from_slice_split _ (λ b. eqb b 10) text c.split.ensures.rest c.split.ensures.done c.split.ensures.closure (λ x r q k. search (rules, tests)))) c.enumerate-index-items.ensures.count)) c.loop-index.yielded _ c.loop-index.yielded_by _ _ (c.in-Some.index, c.in-Some.line) c.in-Some.is c.next.ensures.steps in
+    let index = numbered (slice_split (λ b. eqb b 10) text) (length c.loop-index.yielded) c.in-Some.index c.in-Some.line.now turn.0 turn.1 in
+    next_line c.loop-index.yielded c.in-Some.index c.in-Some.line (read_by c.loop-index.reader) _ index c.loop-index.invariant c.in_ok-take.ensures
 
 pub returns : goal.returns
 returns c =
-    let read = read_by c.loop-rest.reader in
-    let reads = c.loop-rest.invariant.1 read (no_line c.loop-rest.number read _ (eqb-true _ 0 (sym c.loop-rest-test.ensures))) in
-    IfOk-weaker _ (Tells read) (ScriptSays c.args.text.now) (λ reading told. (read, reads, told)) c.end.ensures
+    let text = c.args.text.now in
+    let turn = YieldsList-end (YieldsList-at c.into_iter-index-iterator.ensures.into_iter_gives (YieldsList-from_enumerate (YieldsList-at c.enumerate-index-items.ensures.source (YieldsList-from_slice_split _ (λ b. eqb b 10) text c.split.ensures.rest c.split.ensures.done c.split.ensures.closure (λ x r q k. search (rules, tests)))) c.enumerate-index-items.ensures.count)) c.loop-index.yielded _ c.loop-index.yielded_by _ _ c.in-None.is c.next.ensures.steps in
+    rw (all_lines text c.loop-index.yielded (read_by c.loop-index.reader) c.loop-index.invariant turn.0) at c.end.ensures
