@@ -1,2 +1,4 @@
-pub mod Words
+pub mod Lines
+pub mod Statement
+pub mod Today
 pub mod Written

@@ -1,11 +1,11 @@
 // The program: reads a script from the file that is named, or from standard input, runs one book through it and prints what each command answered.
 #![tactic(auto)]
 
-mod answers;
-mod calls;
+mod desk;
 mod play;
-mod questions;
 mod statement;
+mod teller;
+mod today;
 
 use anyhow::anyhow;
 use play::play;

@@ -1,21 +1,41 @@
 // The statement: each account that has cash or a lot, with its holdings.
+ghost use Rattle.std.specs.Prelude.{◌≡◌, ◌<◌, OnOk, Some};
+ghost use Rattle.std.specs.Io.KnownBytes.{Appends};
+ghost use Rattle.ledger.specs.Accounts.{of_account};
+ghost use Rattle.ledger.specs.View.{view};
+ghost use Rattle.rogbeku.specs.Statement.{funds_text, funds_line, funds_of, held_of, lots_line, holding_lines, lines_to, holds_any_of, is_idle_of, account_lines, statement_lines};
+
 use book::book::Book;
-use ledger::questions::Position;
+use kinds::terms::Holding;
 use margin::rule::MarginRule;
 use refusals::Refusal;
-use std::io;
 use std::io::Write;
+use std::{fmt, io};
 
 // An account's cash, margin, frozen funds and available funds.
 #[derive(Clone, Copy)]
-struct Funds {
+pub struct Funds {
     cash: i128,
     margin: u128,
     frozen: u128,
     available: i128,
 }
 
-fn funds_of<R: MarginRule>(book: &Book<R>, account: u64) -> Result<Funds, Refusal> {
+impl fmt::Display for Funds {
+    ghost output = { λ funds. Some (funds_text funds) };
+
+    fn fmt<W: fmt::Write>(&self, f: &mut fmt::Formatter<W>) -> fmt::Result {
+        write!(
+            f,
+            "cash {} margin {} frozen {} available {}",
+            self.cash, self.margin, self.frozen, self.available
+        )
+    }
+}
+
+fn funds_of<R: MarginRule>(book: &Book<R>, account: u64) -> Result<Funds, Refusal>
+    ensures { result ≡ of_account account (funds_of (view book.now.state) account) }
+{
     Ok(Funds {
         cash: book.cash(account)?,
         margin: book.margin(account)?,
@@ -24,39 +44,58 @@ fn funds_of<R: MarginRule>(book: &Book<R>, account: u64) -> Result<Funds, Refusa
     })
 }
 
-// Whether an account has a lot in a contract.
-fn holds<R: MarginRule>(book: &Book<R>, account: u64, contract: u64) -> bool {
-    match book.holding(account, contract) {
-        Ok(position) => position.long > 0 || position.short > 0,
-        Err(_) => false,
+// An account's lots in a contract, where it has any.
+fn held<R: MarginRule>(book: &Book<R>, account: u64, contract: u64) -> Option<Holding>
+    ensures { result ≡ held_of (view book.now.state) account contract }
+{
+    let position = book.holding(account, contract).ok()?;
+    if position.long == 0 && position.short == 0 {
+        return None;
     }
+    Some(Holding {
+        long: position.long,
+        short: position.short,
+    })
 }
 
-fn holds_any<R: MarginRule>(book: &Book<R>, account: u64) -> bool {
-    let mut any = false;
-    for contract in 0..20u64 {
-        any = any || holds(book, account, contract);
+fn holds_any<R: MarginRule>(book: &Book<R>, account: u64) -> bool
+    ensures { result ≡ holds_any_of (view book.now.state) account }
+{
+    (0..20u64).any(|contract| held(book, account, contract).is_some())
+}
+
+// Whether an account has no cash and no lot.
+fn is_idle<R: MarginRule>(book: &Book<R>, account: u64) -> bool
+    requires { account < 32 }
+    ensures { result ≡ is_idle_of (view book.now.state) account }
+{
+    book.cash(account) == Ok(0) && !holds_any(book, account)
+}
+
+fn tell_funds<W: Write>(out: &mut W, account: u64, funds: Funds) -> io::Result<()>
+    ensures { OnOk result (Appends (W.contents out.old) (W.contents out.new) (funds_line account funds)) }
+{
+    writeln!(out, "  account {account} {funds}")
+}
+
+fn tell_lots<W: Write>(out: &mut W, contract: u64, lots: Option<Holding>) -> io::Result<()>
+    ensures { OnOk result (Appends (W.contents out.old) (W.contents out.new) (lots_line contract lots)) }
+{
+    match lots {
+        Some(holding) => writeln!(out, "    contract {contract} {holding}"),
+        None => Ok(()),
     }
-    any
 }
 
 fn tell_holdings<R: MarginRule, W: Write>(
     out: &mut W,
     book: &Book<R>,
     account: u64,
-) -> io::Result<()> {
-    for contract in 0..20u64 {
-        if let Ok(
-            Position {
-                long,
-                short,
-                free: _,
-            },
-        ) = book.holding(account, contract)
-            && (long > 0 || short > 0)
-        {
-            writeln!(out, "    contract {contract} long {long} short {short}")?;
-        }
+) -> io::Result<()>
+    ensures { OnOk result (Appends (W.contents out.old) (W.contents out.new) (holding_lines (view book.now.state) account)) }
+{
+    for contract in 0..20 {
+        tell_lots(out, contract, held(book, account, contract))?;
     }
     Ok(())
 }
@@ -65,36 +104,32 @@ fn tell_account<R: MarginRule, W: Write>(
     out: &mut W,
     book: &Book<R>,
     account: u64,
-) -> io::Result<()> {
-    let Ok(
-        Funds {
-            cash,
-            margin,
-            frozen,
-            available,
-        },
-    ) = funds_of(book, account)
-    else {
+) -> io::Result<()>
+    requires { account < 32 }
+    ensures { OnOk result (Appends (W.contents out.old) (W.contents out.new) (account_lines (view book.now.state) account)) }
+{
+    let Ok(funds) = funds_of(book, account) else {
         return Ok(());
     };
-    if cash == 0 && !holds_any(book, account) {
+    if is_idle(book, account) {
         return Ok(());
     }
-    writeln!(
-        out,
-        "  account {account} cash {cash} margin {margin} frozen {frozen} available {available}"
-    )?;
+    tell_funds(out, account, funds)?;
     tell_holdings(out, book, account)
 }
 
-pub fn statement<R: MarginRule, W: Write>(
-    out: &mut W,
-    line: u64,
-    book: &Book<R>,
-) -> io::Result<()> {
-    writeln!(out, "{line} statement")?;
-    for account in 0..32u64 {
+fn tell_accounts<R: MarginRule, W: Write>(out: &mut W, book: &Book<R>) -> io::Result<()>
+    ensures { OnOk result (Appends (W.contents out.old) (W.contents out.new) (lines_to 32 (account_lines (view book.now.state)))) }
+{
+    for account in 0..32 {
         tell_account(out, book, account)?;
     }
     Ok(())
+}
+
+pub fn statement<R: MarginRule, W: Write>(out: &mut W, line: u64, book: &Book<R>) -> io::Result<()>
+    ensures { OnOk result (Appends (W.contents out.old) (W.contents out.new) (statement_lines (view book.now.state) line)) }
+{
+    writeln!(out, "{line} statement")?;
+    tell_accounts(out, book)
 }

@@ -1,0 +1,89 @@
+// A book on which the commands of a script are carried out, one after another.
+ghost use Rattle.std.specs.Prelude.{◌≡◌, OnOk};
+ghost use Rattle.std.specs.Io.KnownBytes.{Appends};
+ghost use Rattle.ledger.specs.Calls.{answer, after};
+ghost use Rattle.ledger.specs.View.{view};
+ghost use Rattle.book.specs.Acts.{act, stepped};
+ghost use Rattle.rogbeku.specs.Written.{written};
+ghost use Rattle.rogbeku.specs.Lines.{line_of};
+
+use crate::statement::statement;
+use crate::teller::Teller;
+use crate::today::Today;
+use book::book::Book;
+use book::calls::Call;
+use ledger::records::Reply;
+use margin::rule::MarginRule;
+use runs::run_one;
+use script::command::{Command, Question};
+use script::reading::Line;
+use session::orders::Order;
+use std::alloc::Global;
+use std::io;
+use std::io::Write;
+use words::slip::Shown;
+
+// The call with the slip that is written before it, else with the slip of this book and day.
+fn written<R: MarginRule>(book: &Book<R>, slip: Option<Shown>, order: Order) -> Call
+    ensures { result ≡ written (view book.now.state) slip order }
+{
+    match slip {
+        Some(shown) => Call {
+            book: shown.book,
+            day: shown.day,
+            order,
+        },
+        None => Call {
+            book: book.number(),
+            day: book.day(),
+            order,
+        },
+    }
+}
+
+#[derive(Drop)]
+pub struct Desk<R: MarginRule, W> {
+    pub book: Book<R>,
+    pub teller: Teller<W>,
+    pub heap: Global,
+}
+
+impl<R: MarginRule, W: Write> Desk<R, W> {
+    // Carries out one command.
+    pub fn carry_out(&mut self, line: &Line) -> io::Result<()> {
+        match line.command {
+            // A script makes one book, which this is.
+            Command::Book { .. } => Ok(()),
+            Command::Call { slip, order } => self.call(line.number, slip, order),
+            Command::Ask(question) => self.ask(line.number, question),
+        }
+    }
+
+    // Each call is carried out as a run of one.
+    fn call(&mut self, line: u64, slip: Option<Shown>, order: Order) -> io::Result<()> {
+        let call = written(&self.book, slip, order);
+        match run_one(self.heap, &mut self.book, call)? {
+            Ok(Reply::Done) => self.teller.carried_out(line, "ok"),
+            Err(refusal) => self.teller.refuse(line, refusal),
+        }
+    }
+
+    fn ask(&mut self, line: u64, question: Question) -> io::Result<()> {
+        let book = &self.book;
+        let teller = &mut self.teller;
+        match question {
+            Question::Cash(account) => teller.tell(line, book.cash(account)),
+            Question::Margin(account) => teller.tell(line, book.margin(account)),
+            Question::Frozen(account) => teller.tell(line, book.frozen(account)),
+            Question::Available(account) => teller.tell(line, book.available(account)),
+            Question::Holding { account, contract } => {
+                teller.tell(line, book.holding(account, contract))
+            }
+            Question::Contract(contract) => teller.tell(line, book.contract(contract)),
+            Question::DrawLots(contract) => teller.tell(line, book.draw_lots(contract)),
+            Question::DrawCash => teller.tell(line, Ok(book.draw_cash())),
+            Question::Day => teller.tell(line, Ok(Today::of(book))),
+            Question::Statement => statement(&mut teller.out, line, book),
+        }
+    }
+}

@@ -1,0 +1,72 @@
+// Where the answers are printed, and the count of them.
+ghost use Rattle.std.specs.Prelude.{◌≡◌, OnOk, IfSome, min, ◌+◌, ◌-◌, ◌^◌};
+ghost use Rattle.std.specs.Io.KnownBytes.{Appends};
+ghost use Rattle.refusals.specs.Words.{refusal_text};
+ghost use Rattle.rogbeku.specs.Lines.{line_of, answered, tally_of};
+
+use refusals::Refusal;
+use std::fmt::Display;
+use std::io;
+use std::io::Write;
+
+// How many calls were carried out, the making of the book among them, and how many calls and questions were refused.
+#[derive(Drop)]
+pub struct Teller<W> {
+    pub out: W,
+    done: u64,
+    refused: u64,
+}
+
+impl<W: Write> Teller<W> {
+    pub fn new(out: W) -> Teller<W>
+        ensures { result ≡ record { out = out; done = 0; refused = 0 } }
+    {
+        Teller {
+            out,
+            done: 0,
+            refused: 0,
+        }
+    }
+
+    // Something was carried out, which a word says.
+    pub fn carried_out(&mut self, line: u64, word: &str) -> io::Result<()>
+        ensures prints { OnOk result (Appends (W.contents self.old.out) (W.contents self.new.out) (line_of line word.now)) }
+        ensures done { self.new.done ≡ min (self.old.done + 1) (2 ^ 64 - 1) }
+        ensures refused { self.new.refused ≡ self.old.refused }
+    {
+        self.done = self.done.saturating_add(1);
+        writeln!(self.out, "{line} {word}")
+    }
+
+    // Something was refused.
+    pub fn refuse(&mut self, line: u64, refusal: Refusal) -> io::Result<()>
+        ensures prints { OnOk result (Appends (W.contents self.old.out) (W.contents self.new.out) (line_of line (refusal_text refusal))) }
+        ensures done { self.new.done ≡ self.old.done }
+        ensures refused { self.new.refused ≡ min (self.old.refused + 1) (2 ^ 64 - 1) }
+    {
+        self.refused = self.refused.saturating_add(1);
+        writeln!(self.out, "{line} {refusal}")
+    }
+
+    // The answer to a question.
+    pub fn tell<V: Display + Drop>(
+        &mut self,
+        line: u64,
+        answer: Result<V, Refusal>,
+    ) -> io::Result<()>
+        ensures prints { OnOk result (IfSome (answered V.output answer) (λ text. Appends (W.contents self.old.out) (W.contents self.new.out) (line_of line text))) }
+        ensures done { self.new.done ≡ self.old.done }
+    {
+        match answer {
+            Ok(value) => writeln!(self.out, "{line} is {value}"),
+            Err(refusal) => self.refuse(line, refusal),
+        }
+    }
+
+    // The last line of all: what was carried out and what was refused.
+    pub fn end(&mut self) -> io::Result<()>
+        ensures prints { OnOk result (Appends (W.contents self.old.out) (W.contents self.new.out) (tally_of self.old.done self.old.refused)) }
+    {
+        writeln!(self.out, "{} done, {} refused", self.done, self.refused)
+    }
+}
