@@ -1,3 +1,5 @@
+pub mod Answers
+pub mod Commands
 pub mod Lines
 pub mod Statement
 pub mod Today

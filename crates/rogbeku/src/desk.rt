@@ -3,8 +3,9 @@ ghost use Rattle.std.specs.Prelude.{◌≡◌, OnOk};
 ghost use Rattle.std.specs.Io.KnownBytes.{Appends};
 ghost use Rattle.ledger.specs.Calls.{answer, after};
 ghost use Rattle.ledger.specs.View.{view};
-ghost use Rattle.book.specs.Acts.{act, stepped};
 ghost use Rattle.rogbeku.specs.Written.{written};
+ghost use Rattle.rogbeku.specs.Answers.{call_text, asked};
+ghost use Rattle.rogbeku.specs.Commands.{called, printed, left, all_printed};
 ghost use Rattle.rogbeku.specs.Lines.{line_of};
 
 use crate::statement::statement;
@@ -50,7 +51,11 @@ pub struct Desk<R: MarginRule, W> {
 
 impl<R: MarginRule, W: Write> Desk<R, W> {
     // Carries out one command.
-    pub fn carry_out(&mut self, line: &Line) -> io::Result<()> {
+    pub fn carry_out(&mut self, line: &Line) -> io::Result<()>
+        ensures prints { OnOk result (Appends (W.contents self.old.teller.out) (W.contents self.new.teller.out) (printed (R.MarginRule.meaning self.old.book.rule) (view self.old.book.state) line.now.number line.now.command)) }
+        ensures leaves { OnOk result (view self.new.book.state ≡ left (R.MarginRule.meaning self.old.book.rule) (view self.old.book.state) line.now.command) }
+        ensures rule { self.new.book.rule ≡ self.old.book.rule }
+    {
         match line.command {
             // A script makes one book, which this is.
             Command::Book { .. } => Ok(()),
@@ -59,8 +64,22 @@ impl<R: MarginRule, W: Write> Desk<R, W> {
         }
     }
 
+    // Carries out commands, one after another.
+    pub fn carry_out_all(&mut self, lines: &[Line]) -> io::Result<()>
+        ensures { OnOk result (Appends (W.contents self.old.teller.out) (W.contents self.new.teller.out) (all_printed (R.MarginRule.meaning self.old.book.rule) (view self.old.book.state) lines.now)) }
+    {
+        for line in lines {
+            self.carry_out(line)?;
+        }
+        Ok(())
+    }
+
     // Each call is carried out as a run of one.
-    fn call(&mut self, line: u64, slip: Option<Shown>, order: Order) -> io::Result<()> {
+    fn call(&mut self, line: u64, slip: Option<Shown>, order: Order) -> io::Result<()>
+        ensures prints { OnOk result (Appends (W.contents self.old.teller.out) (W.contents self.new.teller.out) (line_of line (call_text (answer (called (R.MarginRule.meaning self.old.book.rule) (view self.old.book.state) slip order))))) }
+        ensures leaves { OnOk result (view self.new.book.state ≡ after (view self.old.book.state) (called (R.MarginRule.meaning self.old.book.rule) (view self.old.book.state) slip order)) }
+        ensures rule { self.new.book.rule ≡ self.old.book.rule }
+    {
         let call = written(&self.book, slip, order);
         match run_one(self.heap, &mut self.book, call)? {
             Ok(Reply::Done) => self.teller.carried_out(line, "ok"),
@@ -68,7 +87,10 @@ impl<R: MarginRule, W: Write> Desk<R, W> {
         }
     }
 
-    fn ask(&mut self, line: u64, question: Question) -> io::Result<()> {
+    fn ask(&mut self, line: u64, question: Question) -> io::Result<()>
+        ensures prints { OnOk result (Appends (W.contents self.old.teller.out) (W.contents self.new.teller.out) (asked (view self.old.book.state) line question)) }
+        ensures book { self.new.book ≡ self.old.book }
+    {
         let book = &self.book;
         let teller = &mut self.teller;
         match question {

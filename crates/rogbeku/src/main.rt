@@ -28,29 +28,25 @@ fn input(rt: &HostRuntime) -> io::Result<Vec<u8>> {
     }
 }
 
-// Names each line that cannot be read.
-fn tell_faults<W: Write>(out: &mut W, faults: &[Fault]) -> io::Result<()> {
+// Names each line that cannot be read. Gives the writer back.
+fn tell_faults<W: Write + Drop>(mut out: W, faults: &[Fault]) -> io::Result<W> {
     for fault in faults {
-        let line = fault.line;
-        let why = fault.why;
-        writeln!(out, "line {line}: unreadable: {why}")?;
+        writeln!(out, "line {}: unreadable: {}", fault.line, fault.why)?;
     }
-    Ok(())
+    Ok(out)
 }
 
 fn run(rt: &HostRuntime) -> anyhow::Result<()> {
     let heap = rt.alloc();
     let text = input(rt)?;
-    let mut out = BufWriter::new(heap, rt.stdout())?;
+    let out = BufWriter::new(heap, rt.stdout())?;
     match script(heap, text.as_slice()) {
         Ok(lines) => {
-            play(&mut out, heap, lines.as_slice())?;
-            out.flush()?;
+            play(out, heap, lines.as_slice())?.flush()?;
             Ok(())
         }
         Err(ReadError::Text(faults)) => {
-            tell_faults(&mut out, faults.as_slice())?;
-            out.flush()?;
+            tell_faults(out, faults.as_slice())?.flush()?;
             Err(anyhow!("the script cannot be read"))
         }
         Err(ReadError::Memory(error)) => Err(error.into()),

@@ -1,5 +1,5 @@
 // Where the answers are printed, and the count of them.
-ghost use Rattle.std.specs.Prelude.{◌≡◌, OnOk, IfSome, min, ◌+◌, ◌-◌, ◌^◌};
+ghost use Rattle.std.specs.Prelude.{◌≡◌, IfOk, OnOk, IfSome, min, ◌+◌, ◌-◌, ◌^◌};
 ghost use Rattle.std.specs.Io.KnownBytes.{Appends};
 ghost use Rattle.refusals.specs.Words.{refusal_text};
 ghost use Rattle.rogbeku.specs.Lines.{line_of, answered, tally_of};
@@ -63,10 +63,13 @@ impl<W: Write> Teller<W> {
         }
     }
 
-    // The last line of all: what was carried out and what was refused.
-    pub fn end(&mut self) -> io::Result<()>
-        ensures prints { OnOk result (Appends (W.contents self.old.out) (W.contents self.new.out) (tally_of self.old.done self.old.refused)) }
+    // The last line of all: what was carried out and what was refused. Gives the writer back.
+    pub fn end(mut self) -> io::Result<W>
+    where
+        W: Drop,
+        ensures { IfOk result (λ written. Appends (W.contents self.out) (W.contents written) (tally_of self.done self.refused)) }
     {
-        writeln!(self.out, "{} done, {} refused", self.done, self.refused)
+        writeln!(self.out, "{} done, {} refused", self.done, self.refused)?;
+        Ok(self.out)
     }
 }
