@@ -30,7 +30,7 @@ pub fn words<'a>(heap: Global, line: &'a str) -> Result<Vec<&'a str>, AllocError
         .collect(heap)
 }
 
-// The bytes of a line up to its comment; those of a line that cannot be read may be no text.
+// The bytes of a line up to its comment. They may be no text, and a slice has none of the methods by which `before_comment` cuts.
 fn said(line: &[u8]) -> &[u8]
     ensures { result.now ≡ before 35 line.now }
 {
@@ -45,10 +45,10 @@ fn said(line: &[u8]) -> &[u8]
 pub fn opens_book(line: &[u8]) -> bool
     ensures { result ≡ opens_book_of line.now }
 {
-    said(line)
+    let first = said(line)
         .split(|byte| *byte == b' ')
-        .find(|word| !word.is_empty())
-        == Some(b"book".as_slice())
+        .find(|word| !word.is_empty());
+    first == Some(b"book".as_slice())
 }
 
 // A line as text; only plain text can be read.
