@@ -1,6 +1,5 @@
 // The words of a line, and what they say.
 ghost use Rattle.std.specs.Prelude.{◌≡◌, true, false, map, IfOk, MatchResult};
-ghost use Rattle.words.specs.declared.unreadable.Unreadable.TheVariants.{NotAscii};
 ghost use Rattle.words.specs.Cuts.{before};
 ghost use Rattle.words.specs.Words.{bytes};
 ghost use Rattle.script.specs.Lines.{words_of, opens_book_of};
@@ -53,7 +52,7 @@ pub fn opens_book(line: &[u8]) -> bool
 
 // A line as text; only plain text can be read.
 fn plain_text(line: &[u8]) -> Result<&str, Unreadable>
-    ensures { MatchResult result (λ text. (is_plain line.now ≡ true) × (text.now ≡ line.now)) (λ why. (is_plain line.now ≡ false) × (why ≡ NotAscii)) }
+    ensures { MatchResult result (λ text. (is_plain line.now ≡ true) × (text.now ≡ line.now)) (λ why. (is_plain line.now ≡ false) × (why ≡ Unreadable.NotAscii)) }
 {
     if !line.is_ascii() {
         return Err(Unreadable::NotAscii);
