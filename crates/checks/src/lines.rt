@@ -11,6 +11,7 @@ use words::slip::Shown;
 fn said(rt: &HostRuntime, line: &str) -> Result<Command, Fail> {
     match read_line(rt.alloc(), line.as_bytes()) {
         Ok(Some(command)) => Ok(command),
+        Err(ReadError::Memory(error)) => Err(error.into()),
         _ => Err(Fail::new(line)),
     }
 }

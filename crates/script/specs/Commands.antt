@@ -30,6 +30,7 @@ plain w (Question question) = do
   asked ← question_of question w
   Ok (say.Ask asked)
 
+-- the same, by the word that it opens with
 abbrev pub plain_of : List (List ℕ) → Result Command Unreadable
 plain_of w = do
   opening ← opening_of (at w 0)
@@ -41,6 +42,7 @@ called w Book = Err NoSlipHere
 called w (Call call) = order_of call w
 called w (Question question) = Err NoSlipHere
 
+-- the call that follows a slip
 abbrev pub call_of : List (List ℕ) → Result Order Unreadable
 call_of w = do
   opening ← opening_of (at w 0)

@@ -58,6 +58,7 @@ taken_in number is-book (Ok None) read = read
 taken_in number is-book (Ok (Some command)) read = placed number command (well_placed_of command read.start) read
 taken_in number is-book (Err why) read = record { start = cond is-book (unless_awaited Made read.start) read.start; lines = read.lines; faults = read.faults ++ (record { line = number; why = why } ∷ []) }
 
+-- the line with this number is taken in
 abbrev pub taken : ℕ → List ℕ → Read → Read
 taken number line read = taken_in number (opens_book_of line) (says_of line) read
 

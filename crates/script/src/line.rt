@@ -1,6 +1,5 @@
 // The words of a line, and what they say.
 ghost use Rattle.std.specs.Prelude.{◌≡◌, true, false, map, IfOk, MatchResult};
-ghost use Rattle.words.specs.declared.unreadable.Unreadable.TheVariants.{NotAscii};
 ghost use Rattle.words.specs.Cuts.{before};
 ghost use Rattle.words.specs.Words.{bytes};
 ghost use Rattle.script.specs.Lines.{words_of, opens_book_of};
@@ -30,7 +29,7 @@ pub fn words<'a>(heap: Global, line: &'a str) -> Result<Vec<&'a str>, AllocError
         .collect(heap)
 }
 
-// The bytes of a line up to its comment; those of a line that cannot be read may be no text.
+// The bytes of a line up to its comment. They may be no text, and a slice has none of the methods by which `before_comment` cuts.
 fn said(line: &[u8]) -> &[u8]
     ensures { result.now ≡ before 35 line.now }
 {
@@ -45,15 +44,15 @@ fn said(line: &[u8]) -> &[u8]
 pub fn opens_book(line: &[u8]) -> bool
     ensures { result ≡ opens_book_of line.now }
 {
-    said(line)
+    let first = said(line)
         .split(|byte| *byte == b' ')
-        .find(|word| !word.is_empty())
-        == Some(b"book".as_slice())
+        .find(|word| !word.is_empty());
+    first == Some(b"book".as_slice())
 }
 
 // A line as text; only plain text can be read.
 fn plain_text(line: &[u8]) -> Result<&str, Unreadable>
-    ensures { MatchResult result (λ text. (is_plain line.now ≡ true) × (text.now ≡ line.now)) (λ why. (is_plain line.now ≡ false) × (why ≡ NotAscii)) }
+    ensures { MatchResult result (λ text. (is_plain line.now ≡ true) × (text.now ≡ line.now)) (λ why. (is_plain line.now ≡ false) × (why ≡ Unreadable.NotAscii)) }
 {
     if !line.is_ascii() {
         return Err(Unreadable::NotAscii);

@@ -9,7 +9,7 @@ use words::keyword::{CallWord, QuestionWord, RuleWord};
 use words::unreadable::Unreadable;
 use words::word::{end, read_at};
 
-// An account, or a contract.
+// An account, or a contract. It is a function apart from `two`: an array of as many numbers would name none of them.
 fn one(words: &[&str]) -> Result<u64, Unreadable>
     ensures { result ≡ one_number (map bytes words.now) }
 {

@@ -44,18 +44,23 @@ openings =
     ∷ (codes "statement", Question question.Statement)
     ∷ []
 
+-- what a command opens with
 abbrev pub opening_of : List ℕ → Result Opening Unreadable
 opening_of word = keyword openings word
 
+-- the words for the rights of an option
 abbrev pub rights : List (List ℕ × Right)
 rights = (codes "call", right.Call) ∷ (codes "put", right.Put) ∷ []
 
+-- an option's right
 abbrev pub right_of : List ℕ → Result Right Unreadable
 right_of word = keyword rights word
 
+-- the words for the styles of an option
 abbrev pub styles : List (List ℕ × Style)
 styles = (codes "american", American) ∷ (codes "european", European) ∷ []
 
+-- an option's style
 abbrev pub style_of : List ℕ → Result Style Unreadable
 style_of word = keyword styles word
 
@@ -63,5 +68,6 @@ style_of word = keyword styles word
 abbrev pub rule_words : List (List ℕ × RuleWord)
 rule_words = (codes "standard", Standard) ∷ (codes "flat", Flat) ∷ (codes "addon", AddOn) ∷ []
 
+-- the word of a margin rule
 abbrev pub rule_word_of : List ℕ → Result RuleWord Unreadable
 rule_word_of word = keyword rule_words word

@@ -3,6 +3,7 @@ use Rattle.std.specs.Prelude.{ℕ, cond, List, [], ◌∷◌, length, codes, ◌
 use Rattle.words.specs.declared.unreadable.Unreadable.{Unreadable}
 use Rattle.words.specs.declared.unreadable.Unreadable.TheVariants.{UnknownWord, MissingWord, ExtraWord, NotNumber, NotSlip, NoSlipHere, NoBook, LateBook, SecondBook, NotAscii}
 
+-- the words of each reason
 abbrev pub reason_of : Unreadable → List ℕ
 reason_of UnknownWord = codes "unknown word"
 reason_of MissingWord = codes "a word is missing"

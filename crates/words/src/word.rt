@@ -3,7 +3,7 @@ ghost use Rattle.std.specs.Prelude.{◌≡◌, ℕ, List, Result, map};
 ghost use Rattle.words.specs.Reasons.{unfit_of};
 ghost use Rattle.words.specs.Numbers.{number_of};
 ghost use Rattle.words.specs.Words.{bytes, at, only};
-ghost use Rattle.words.specs.declared.unreadable.Unreadable.{Unreadable as why};
+ghost use Rattle.words.specs.declared.unreadable.Unreadable.{Unreadable};
 
 use crate::number::{number, short_number};
 use crate::unreadable::Unreadable;
@@ -11,7 +11,7 @@ use crate::unreadable::Unreadable;
 // What can stand as one word of a command.
 pub trait Word: Sized {
     // What a word means, or why it means nothing of this kind.
-    ghost meaning: { List ℕ → Result Self why };
+    ghost meaning: { List ℕ → Result Self Unreadable };
 
     fn read(word: &str) -> Result<Self, Unreadable>
         ensures { result ≡ meaning word.now };

@@ -8,5 +8,5 @@ use Rattle.script.proofs.line.opens_book.Goals as goal
 
 pub returns : goal.returns
 returns c =
-    let found = find_from_yields_List (λ w. not (eqb (length w) 0)) _ _ _ c.find.ensures.ran (YieldsList-from_slice_split _ (λ b. eqb b 32) (before 35 c.args.line.now) (c.split.ensures.rest ∙ c.said.ensures) c.split.ensures.done c.split.ensures.closure (λ x r q k. search (rules, tests))) (λ x b q k. search (rules, tests)) in
+    let found = find_from_yields_List (λ w. not (eqb (length w) 0)) _ _ _ c.find-first.ensures.ran (YieldsList-from_slice_split _ (λ b. eqb b 32) (before 35 c.args.line.now) (c.split.ensures.rest ∙ c.said.ensures) c.split.ensures.done c.split.ensures.closure (λ x r q k. search (rules, tests))) (λ x b q k. search (rules, tests)) in
     c.eq.ensures ∙ first_word_is (λ w. not (eqb (length w) 0)) (slice_split (λ b. eqb b 32) (before 35 c.args.line.now)) _ _ (codes "book") found c.as_slice.ensures refl
