@@ -30,7 +30,7 @@ fn paid_out(
 fn an_empty_book(rt: HostRuntime) {
     let (book, _slip) = Book::new(7, Standard);
     assert!(rt; book.number() == 7 && book.day() == 1);
-    assert!(rt; matches!(book.stage(), Stage::Trading));
+    assert_eq!(rt; book.stage(), Stage::Trading);
     assert_eq!(rt; book.cash(31), Ok(0));
     assert_eq!(rt; book.available(0), Ok(0));
     assert_eq!(rt; book.cash(32), Err(Refusal::NoSuch(32)));

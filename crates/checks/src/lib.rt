@@ -13,6 +13,8 @@ mod margins;
 #[cfg(test)]
 mod numbers;
 #[cfg(test)]
+mod printed;
+#[cfg(test)]
 mod runs_of_calls;
 #[cfg(test)]
 mod scripts;

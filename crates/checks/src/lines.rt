@@ -26,124 +26,91 @@ fn told(rt: &HostRuntime, line: &str) -> Result<&'static str, Fail> {
     }
 }
 
-fn asked(command: Command) -> (&'static str, u64) {
-    match command {
-        Command::Ask(Question::Cash(account)) => ("cash", account),
-        Command::Ask(Question::Margin(account)) => ("margin", account),
-        Command::Ask(Question::Frozen(account)) => ("frozen", account),
-        Command::Ask(Question::Available(account)) => ("available", account),
-        Command::Ask(
-            Question::Holding {
-                account,
-                contract: 2,
-            },
-        ) => ("holding 2", account),
-        Command::Ask(Question::Contract(contract)) => ("contract", contract),
-        Command::Ask(Question::DrawLots(contract)) => ("drawlots", contract),
-        Command::Ask(Question::DrawCash) => ("drawcash", 0),
-        Command::Ask(Question::Day) => ("day", 0),
-        Command::Ask(Question::Statement) => ("statement", 0),
-        _ => ("no question", 0),
-    }
-}
-
-static QUESTIONS: [(&str, &str, u64); 10] = [
-    ("cash 1", "cash", 1),
-    ("margin 1", "margin", 1),
-    ("frozen 1", "frozen", 1),
-    ("available 1", "available", 1),
-    ("holding 1 2", "holding 2", 1),
-    ("contract 1", "contract", 1),
-    ("drawlots 1", "drawlots", 1),
-    ("drawcash", "drawcash", 0),
-    ("  day   # which?", "day", 0),
-    ("statement", "statement", 0),
+static QUESTIONS: [(&str, Question); 10] = [
+    ("cash 1", Question::Cash(1)),
+    ("margin 1", Question::Margin(1)),
+    ("frozen 1", Question::Frozen(1)),
+    ("available 1", Question::Available(1)),
+    (
+        "holding 1 2",
+        Question::Holding {
+            account: 1,
+            contract: 2,
+        },
+    ),
+    ("contract 1", Question::Contract(1)),
+    ("drawlots 1", Question::DrawLots(1)),
+    ("drawcash", Question::DrawCash),
+    ("  day   # which?", Question::Day),
+    ("statement", Question::Statement),
 ];
 
 #[test]
 fn questions(rt: HostRuntime) -> Result<(), Fail> {
-    for (line, name, number) in &QUESTIONS {
-        assert_eq!(rt; asked(said(&rt, line)?), (*name, *number), "{}", *line);
+    for (line, question) in &QUESTIONS {
+        assert_eq!(rt; said(&rt, line)?, Command::Ask(*question), "{}", *line);
     }
     Ok(())
 }
 
-fn rule(command: Command) -> (u32, u64, u64) {
-    match command {
-        Command::Book {
-            number,
-            rule: RuleName::Base(BaseRule::Standard),
-        } => (number, 0, 0),
-        Command::Book {
-            number,
-            rule: RuleName::Base(BaseRule::Flat(sum)),
-        } => (number, 0, sum),
-        Command::Book {
-            number,
-            rule: RuleName::AddOn {
-                addition,
-                base: BaseRule::Standard,
-            },
-        } => (number, addition, 0),
-        Command::Book {
-            number,
-            rule: RuleName::AddOn {
-                addition,
-                base: BaseRule::Flat(sum),
-            },
-        } => (number, addition, sum),
-        _ => (0, 0, 0),
-    }
-}
-
-static BOOKS: [(&str, (u32, u64, u64)); 4] = [
-    ("book 8 standard", (8, 0, 0)),
-    ("book 8 flat 70", (8, 0, 70)),
-    ("book 8 addon 5 standard", (8, 5, 0)),
-    ("book 8 addon 5 flat 70", (8, 5, 70)),
+static BOOKS: [(&str, RuleName); 4] = [
+    ("book 8 standard", RuleName::Base(BaseRule::Standard)),
+    ("book 8 flat 70", RuleName::Base(BaseRule::Flat(70))),
+    (
+        "book 8 addon 5 standard",
+        RuleName::AddOn {
+            addition: 5,
+            base: BaseRule::Standard,
+        },
+    ),
+    (
+        "book 8 addon 5 flat 70",
+        RuleName::AddOn {
+            addition: 5,
+            base: BaseRule::Flat(70),
+        },
+    ),
 ];
 
 #[test]
 fn books(rt: HostRuntime) -> Result<(), Fail> {
-    for (line, parts) in &BOOKS {
-        assert_eq!(rt; rule(said(&rt, line)?), *parts, "{}", *line);
+    for (line, rule) in &BOOKS {
+        let made = Command::Book {
+            number: 8,
+            rule: *rule,
+        };
+        assert_eq!(rt; said(&rt, line)?, made, "{}", *line);
     }
     Ok(())
 }
 
 #[test]
 fn calls(rt: HostRuntime) -> Result<(), Fail> {
-    let slipped = said(&rt, "@8.1 deposit 3 0100# paid in")?;
-    assert!(rt;
-        matches!(
-            slipped,
-            Command::Call {
-                slip: Some(Shown { book: 8, day: 1 }),
-                order: Order::Deposit(Deposit {
-                    account: 3,
-                    amount: 100
-                }),
-            }
-        )
+    assert_eq!(rt;
+        said(&rt, "@8.1 deposit 3 0100# paid in")?,
+        Command::Call {
+            slip: Some(Shown { book: 8, day: 1 }),
+            order: Order::Deposit(Deposit {
+                account: 3,
+                amount: 100
+            }),
+        }
     );
-    let listed = said(&rt, "option 1 2 put european 3 4 5 6")?;
-    assert!(rt;
-        matches!(
-            listed,
-            Command::Call {
-                slip: None,
-                order: Order::ListOption(OptionListing {
-                    number: 1,
-                    future: 2,
-                    right: Right::Put,
-                    style: Style::European,
-                    strike: 3,
-                    tick: 4,
-                    last_day: 5,
-                    price: 6,
-                }),
-            }
-        )
+    assert_eq!(rt;
+        said(&rt, "option 1 2 put european 3 4 5 6")?,
+        Command::Call {
+            slip: None,
+            order: Order::ListOption(OptionListing {
+                number: 1,
+                future: 2,
+                right: Right::Put,
+                style: Style::European,
+                strike: 3,
+                tick: 4,
+                last_day: 5,
+                price: 6,
+            }),
+        }
     );
     Ok(())
 }

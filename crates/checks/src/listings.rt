@@ -1,15 +1,16 @@
 // Listings and the margin rates that they ask for.
+ghost use Rattle.std.specs.Prelude.{◌≡◌, Ok};
+
 use book::book::Book;
 use book::slips::TradingSlip;
-use ledger::questions::Quote;
-use kinds::terms::Style;
+use kinds::terms::{Holding, Style};
+use ledger::questions::{Position, Quote};
 use margin::add_on::AddOn;
 use margin::flat::Flat;
 use margin::rule::{MarginRule, Right};
 use margin::standard::Standard;
 use refusals::Refusal;
 use session::orders::{FutureListing, OptionListing};
-use std::process::Abort;
 use std::test::Fail;
 
 const FUTURE: FutureListing = FutureListing {
@@ -31,24 +32,14 @@ const CALL: OptionListing = OptionListing {
     price: 30_000,
 };
 
-fn quoted<R: MarginRule>(
-    rt: &impl Abort,
-    book: &Book<R>,
-    contract: u64,
-    price: u32,
-    rate: u64,
-) -> Result<(), Fail> {
-    match book.contract(contract) {
-        Ok(quote) => {
-            assert!(rt; quote.price == price && quote.rate == rate);
-            Ok(())
-        },
-        Err(_) => Err(Fail::new("not listed")),
-    }
+fn quote(price: u32, rate: u64) -> Result<Quote, Refusal>
+    ensures { result ≡ Ok (record { price = price; rate = rate }) }
+{
+    Ok(Quote { price, rate })
 }
 
 #[test]
-fn futures_at_their_limits(rt: HostRuntime) -> Result<(), Fail> {
+fn futures_at_their_limits(rt: HostRuntime) {
     let (mut book, slip) = Book::new(7, Standard);
     for (listing, answer) in [
         (
@@ -148,18 +139,17 @@ fn futures_at_their_limits(rt: HostRuntime) -> Result<(), Fail> {
     ] {
         assert_eq!(rt; book.list_future(&slip, listing), answer);
     }
-    quoted(&rt, &book, 3, 99_999_999, 99_999_999_000)?;
-    quoted(&rt, &book, 2, 1, 1)?;
-    quoted(&rt, &book, 0, 2_000_000, 1_000_000)
+    assert_eq!(rt; book.contract(3), quote(99_999_999, 99_999_999_000));
+    assert_eq!(rt; book.contract(2), quote(1, 1));
+    assert_eq!(rt; book.contract(0), quote(2_000_000, 1_000_000));
 }
 
 // A book with future 0.
-fn with_future<R: MarginRule>(rule: R) -> Result<(Book<R>, TradingSlip), Fail> {
+fn with_future<R: MarginRule + Drop>(rule: R) -> Result<(Book<R>, TradingSlip), Fail> {
     let (mut book, slip) = Book::new(7, rule);
-    match book.list_future(&slip, FUTURE) {
-        Ok(()) => Ok((book, slip)),
-        Err(_) => Ok((book, slip)),
-    }
+    book.list_future(&slip, FUTURE)
+        .map_err(|_| Fail::new("not listed"))?;
+    Ok((book, slip))
 }
 
 #[test]
@@ -263,10 +253,10 @@ fn options_at_their_limits(rt: HostRuntime) -> Result<(), Fail> {
     ] {
         assert_eq!(rt; book.list_option(&slip, listing), answer);
     }
-    quoted(&rt, &book, 4, 30_000, 900_000)?;
-    assert!(rt; matches!(book.contract(5), Err(Refusal::NoSuch(5))));
-    assert!(rt; matches!(book.draw_lots(19), Ok(lots) if lots.long == 0 && lots.short == 0));
-    assert!(rt; matches!(book.draw_lots(5), Err(Refusal::NoSuch(5))));
+    assert_eq!(rt; book.contract(4), quote(30_000, 900_000));
+    assert_eq!(rt; book.contract(5), Err(Refusal::NoSuch(5)));
+    assert_eq!(rt; book.draw_lots(19), Ok(Holding { long: 0, short: 0 }));
+    assert_eq!(rt; book.draw_lots(5), Err(Refusal::NoSuch(5)));
     Ok(())
 }
 
@@ -280,31 +270,33 @@ fn rates_under_every_rule(rt: HostRuntime) -> Result<(), Fail> {
     };
     let (mut standard, slip) = with_future(Standard)?;
     assert_eq!(rt; standard.list_option(&slip, put), Ok(()));
-    quoted(&rt, &standard, 5, 105_000, 1_525_000)?;
-    let Ok(flat) = Flat::new(70) else {
-        return Err(Fail::new("no rule"));
-    };
+    assert_eq!(rt; standard.contract(5), quote(105_000, 1_525_000));
+    let flat = Flat::new(70).map_err(|_| Fail::new("no rule"))?;
     let (mut flat, slip) = with_future(flat)?;
     assert_eq!(rt; flat.list_option(&slip, put), Ok(()));
-    quoted(&rt, &flat, 0, 2_000_000, 70)?;
-    quoted(&rt, &flat, 5, 105_000, 525_070)?;
-    let Ok(add_on) = AddOn::new(2_500, Standard) else {
-        return Err(Fail::new("no rule"));
-    };
+    assert_eq!(rt; flat.contract(0), quote(2_000_000, 70));
+    assert_eq!(rt; flat.contract(5), quote(105_000, 525_070));
+    let add_on = AddOn::new(2_500, Standard).map_err(|_| Fail::new("no rule"))?;
     let (mut add_on, slip) = with_future(add_on)?;
     assert_eq!(rt; add_on.list_option(&slip, CALL), Ok(()));
-    quoted(&rt, &add_on, 0, 2_000_000, 1_250_000)?;
-    quoted(&rt, &add_on, 4, 30_000, 1_125_000)
+    assert_eq!(rt; add_on.contract(0), quote(2_000_000, 1_250_000));
+    assert_eq!(rt; add_on.contract(4), quote(30_000, 1_125_000));
+    Ok(())
 }
 
 #[test]
 fn holdings_of_what_is_listed(rt: HostRuntime) -> Result<(), Fail> {
     let (book, _slip) = with_future(Standard)?;
-    assert!(rt; matches!(book.holding(32, 20), Err(Refusal::NoSuch(32))));
-    assert!(rt; matches!(book.holding(31, 20), Err(Refusal::NoSuch(20))));
-    assert!(rt; matches!(book.holding(31, 4), Err(Refusal::NoSuch(4))));
-    assert!(rt;
-        matches!(book.holding(31, 0), Ok(held) if held.long == 0 && held.short == 0 && held.free == 0)
+    assert_eq!(rt; book.holding(32, 20), Err(Refusal::NoSuch(32)));
+    assert_eq!(rt; book.holding(31, 20), Err(Refusal::NoSuch(20)));
+    assert_eq!(rt; book.holding(31, 4), Err(Refusal::NoSuch(4)));
+    assert_eq!(rt;
+        book.holding(31, 0),
+        Ok(Position {
+            long: 0,
+            short: 0,
+            free: 0
+        })
     );
     Ok(())
 }

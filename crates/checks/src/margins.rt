@@ -35,10 +35,7 @@ const LARGEST_CALL: OptionLot = OptionLot {
 fn made<T, E: Drop>(res: Result<T, E>) -> Result<T, Fail>
     ensures { IfOk result (λ value. res ≡ Ok value) }
 {
-    match res {
-        Ok(value) => Ok(value),
-        Err(_) => Err(Fail::new("not made")),
-    }
+    res.map_err(|_| Fail::new("not made"))
 }
 
 #[test]

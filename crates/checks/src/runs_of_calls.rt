@@ -36,13 +36,15 @@ fn answers_in_their_order(rt: HostRuntime) -> Result<(), Fail> {
     ];
     run(&mut book, &calls, &mut told)?;
     run(&mut book, &[withdrawal, withdrawal], &mut told)?;
-    assert!(rt; told.len() == 6);
-    assert!(rt; matches!(told[0], Ok(Reply::Done)));
-    assert!(rt; matches!(told[1], Err(Refusal::WrongSlip(8))));
-    assert!(rt; matches!(told[2], Err(Refusal::WrongSlip(7))));
-    assert!(rt; matches!(told[3], Ok(Reply::Done)));
-    assert!(rt; matches!(told[4], Ok(Reply::Done)));
-    assert!(rt; matches!(told[5], Err(Refusal::ShortOfFunds(1))));
-    assert!(rt; matches!(book.cash(1), Ok(20)));
+    let answers = [
+        Ok(Reply::Done),
+        Err(Refusal::WrongSlip(8)),
+        Err(Refusal::WrongSlip(7)),
+        Ok(Reply::Done),
+        Ok(Reply::Done),
+        Err(Refusal::ShortOfFunds(1)),
+    ];
+    assert_eq!(rt; told.as_slice(), answers.as_slice());
+    assert_eq!(rt; book.cash(1), Ok(20));
     Ok(())
 }

@@ -8,8 +8,7 @@ use std::test::Fail;
 fn read(heap: Global, lines: Vec<Line>) -> Result<String, Fail> {
     let mut told = String::new(heap);
     for line in lines {
-        let number = line.number;
-        write!(told, "{number};")?;
+        write!(told, "{};", line.number)?;
     }
     Ok(told)
 }
@@ -18,9 +17,7 @@ fn read(heap: Global, lines: Vec<Line>) -> Result<String, Fail> {
 fn unread(heap: Global, faults: Vec<Fault>) -> Result<String, Fail> {
     let mut told = String::new(heap);
     for fault in faults {
-        let line = fault.line;
-        let why = fault.why;
-        write!(told, "{line}: {why};")?;
+        write!(told, "{}: {};", fault.line, fault.why)?;
     }
     Ok(told)
 }

@@ -1,14 +1,15 @@
 // Slips as a script writes them.
 use words::slip::{Shown, slip};
 
-fn numbers(word: &str) -> Option<(u32, u32)> {
-    let shown = slip(word)?;
-    Some((shown.book, shown.day))
-}
-
-static SLIPS: [(&str, Option<(u32, u32)>); 10] = [
-    ("@8.1", Some((8, 1))),
-    ("@4294967295.0", Some((u32::MAX, 0))),
+static SLIPS: [(&str, Option<Shown>); 10] = [
+    ("@8.1", Some(Shown { book: 8, day: 1 })),
+    (
+        "@4294967295.0",
+        Some(Shown {
+            book: u32::MAX,
+            day: 0,
+        }),
+    ),
     ("8.1", None),
     ("@8", None),
     ("@8.", None),
@@ -21,7 +22,7 @@ static SLIPS: [(&str, Option<(u32, u32)>); 10] = [
 
 #[test]
 fn slips(rt: HostRuntime) {
-    for (word, said) in &SLIPS {
-        assert_eq!(rt; numbers(word), *said, "{}", *word);
+    for (word, shown) in &SLIPS {
+        assert_eq!(rt; slip(word), *shown, "{}", *word);
     }
 }

@@ -13,7 +13,7 @@ use refusals::Refusal;
 use std::fmt;
 
 // An account's lots in a contract; free are the long lots that no live instruction has taken.
-#[derive(Clone, Copy)]
+#[derive(Clone, Copy, PartialEq, Eq, Debug)]
 pub struct Position {
     pub long: u32,
     pub short: u32,
@@ -33,7 +33,7 @@ impl fmt::Display for Position {
 }
 
 // A contract's carried price in fen a unit and its margin rate in fen a lot.
-#[derive(Clone, Copy)]
+#[derive(Clone, Copy, PartialEq, Eq, Debug)]
 pub struct Quote {
     pub price: u32,
     pub rate: u64,

@@ -76,7 +76,7 @@ pub struct Request {
 }
 
 // The stage of a day: trading, then after the cut, and in between while a draw is open.
-#[derive(Clone, Copy, PartialEq, Eq)]
+#[derive(Clone, Copy, PartialEq, Eq, Debug)]
 pub enum Stage {
     Trading,
     Cut,
@@ -111,7 +111,7 @@ pub struct OpenDraw {
 }
 
 // What a call that was carried out tells.
-#[derive(Clone, Copy)]
+#[derive(Clone, Copy, PartialEq, Eq, Debug)]
 pub enum Reply {
     Done,
 }

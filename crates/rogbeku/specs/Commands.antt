@@ -3,6 +3,7 @@ use Rattle.std.specs.Prelude.{ℕ, List, [], ◌∷◌, ◌++◌, ◌^◌, cond,
 use Rattle.refusals.specs.declared.Refusal.{Refusal}
 use Rattle.refusals.specs.declared.Refusal.TheVariants.{OutOfLimits}
 use Rattle.refusals.specs.Words.{refusal_text}
+use Rattle.std.specs.Io.KnownBytes.{Appends}
 use Rattle.margin.specs.AddOn.{added}
 use Rattle.margin.specs.Flat.{flat}
 use Rattle.margin.specs.Rules.{Rule}
@@ -20,7 +21,7 @@ use Rattle.script.specs.declared.reading.Line.{Line}
 use Rattle.session.specs.declared.orders.Order.{Order}
 use Rattle.words.specs.declared.slip.Shown.{Shown}
 use Rattle.rogbeku.specs.Answers.{call_text, asked}
-use Rattle.rogbeku.specs.Lines.{line_of}
+use Rattle.rogbeku.specs.Lines.{line_of, tally_of}
 use Rattle.rogbeku.specs.Written.{written}
 
 -- what a call of the script comes to
@@ -72,12 +73,12 @@ abbrev pub opened : Result Rule Refusal → ℕ → ℕ → List Line → List �
 opened (Ok rule) line number lines = line_of line (codes "made") ++ all_printed rule (made number) lines
 opened (Err refusal) line number lines = line_of line (refusal_text refusal)
 
--- a whole script, which begins with the making of its book
-abbrev pub begun_by : Line → Command → List Line → List ℕ
-begun_by line (say.Book number rule) lines = opened (rule_of rule) line.number number lines
-begun_by line (say.Call slip order) lines = []
-begun_by line (say.Ask question) lines = []
+-- what a script adds to what is written: its book's line, its commands' lines and a tally. One that doesn't begin with its book adds nothing.
+abbrev pub Begins : Line → Command → List Line → Option (List ℕ) → Option (List ℕ) → Type 0
+Begins line (say.Book number rule) lines old new = (done refused : ℕ) × Appends old new (opened (rule_of rule) line.number number lines ++ tally_of done refused)
+Begins line (say.Call slip order) lines old new = Appends old new []
+Begins line (say.Ask question) lines old new = Appends old new []
 
-abbrev pub script_printed : List Line → List ℕ
-script_printed [] = []
-script_printed (line ∷ lines) = begun_by line line.command lines
+abbrev pub Plays : List Line → Option (List ℕ) → Option (List ℕ) → Type 0
+Plays [] old new = Appends old new []
+Plays (line ∷ lines) old new = Begins line line.command lines old new

@@ -1,8 +1,9 @@
 // A whole script: the book is made with its rule, and each command is carried out and answered in turn.
-ghost use Rattle.std.specs.Prelude.{◌≡◌, ℕ, ◌+◌, ◌^◌, ◌<◌, ◌≤◌, ◌++◌, IfOk, MatchResult};
+ghost use Rattle.std.specs.Prelude.{◌≡◌, ℕ, ◌^◌, ◌++◌, IfOk};
 ghost use Rattle.std.specs.Io.KnownBytes.{Appends};
-ghost use Rattle.refusals.specs.declared.Refusal.TheVariants.{OutOfLimits};
-ghost use Rattle.rogbeku.specs.Commands.{meant, opened, script_printed};
+ghost use Rattle.margin.specs.AddOn.{added};
+ghost use Rattle.margin.specs.Flat.{flat as flat_rule};
+ghost use Rattle.rogbeku.specs.Commands.{within, raised_by, meant, opened, Plays};
 ghost use Rattle.rogbeku.specs.Lines.{tally_of};
 
 use crate::desk::Desk;
@@ -21,16 +22,19 @@ use std::io::Write;
 
 // The flat rule, where its sum is within its limit.
 fn flat(sum: u64) -> Result<Flat, Refusal>
-    ensures { MatchResult result (λ rule. (sum ≤ 10 ^ 11) × (rule.sum ≡ sum)) (λ refusal. (10 ^ 11 < sum) × (refusal ≡ OutOfLimits 1)) }
+    ensures { meant (λ rule. flat_rule rule.sum) result ≡ within sum (10 ^ 11) (flat_rule sum) }
 {
     Ok(Flat::new(sum)?)
 }
 
-// An add-on above a rule, where its addition is within its limit.
-fn add_on<R: MarginRule + Drop>(addition: u64, rule: R) -> Result<AddOn<R>, Refusal>
-    ensures { MatchResult result (λ made. (addition ≤ 10000) × (made.addition ≡ addition) × (made.rule ≡ rule)) (λ refusal. (10000 < addition) × (refusal ≡ OutOfLimits 1)) }
+// An add-on above a rule, where there is one and the addition is within its limit.
+fn add_on<R: MarginRule + Drop>(
+    addition: u64,
+    rule: Result<R, Refusal>,
+) -> Result<AddOn<R>, Refusal>
+    ensures { meant (λ made. added made.addition (R.meaning made.rule)) result ≡ raised_by addition (meant R.meaning rule) }
 {
-    Ok(AddOn::new(addition, rule)?)
+    Ok(AddOn::new(addition, rule?)?)
 }
 
 // The line that makes a book, and the book's number.
@@ -68,6 +72,7 @@ fn run_book<R: MarginRule + Drop, W: Write + Drop>(
 
 // Carries out a script, which begins with the making of its book, and prints the tally. Gives the writer back.
 pub fn play<W: Write + Drop>(out: W, heap: Global, lines: &[Line]) -> io::Result<W>
+    ensures { IfOk result (λ written. Plays lines.now (W.contents out) (W.contents written)) }
 {
     let Some((first, commands)) = lines.split_first() else {
         return Ok(out);
@@ -85,13 +90,10 @@ pub fn play<W: Write + Drop>(out: W, heap: Global, lines: &[Line]) -> io::Result
         RuleName::AddOn {
             addition,
             base: BaseRule::Standard,
-        } => run_book(out, heap, add_on(addition, Standard), opening, commands),
+        } => run_book(out, heap, add_on(addition, Ok(Standard)), opening, commands),
         RuleName::AddOn {
             addition,
             base: BaseRule::Flat(sum),
-        } => {
-            let rule = flat(sum).and_then(|flat| add_on(addition, flat));
-            run_book(out, heap, rule, opening, commands)
-        }
+        } => { run_book(out, heap, add_on(addition, flat(sum)), opening, commands) }
     }
 }

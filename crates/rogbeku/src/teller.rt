@@ -64,12 +64,17 @@ impl<W: Write> Teller<W> {
     }
 
     // The last line of all: what was carried out and what was refused. Gives the writer back.
-    pub fn end(mut self) -> io::Result<W>
+    pub fn end(self) -> io::Result<W>
     where
         W: Drop,
         ensures { IfOk result (λ written. Appends (W.contents self.out) (W.contents written) (tally_of self.done self.refused)) }
     {
-        writeln!(self.out, "{} done, {} refused", self.done, self.refused)?;
-        Ok(self.out)
+        let Teller {
+            mut out,
+            done,
+            refused,
+        } = self;
+        writeln!(out, "{done} done, {refused} refused")?;
+        Ok(out)
     }
 }

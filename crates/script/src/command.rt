@@ -3,20 +3,20 @@ use session::orders::Order;
 use words::slip::Shown;
 
 // A margin rule with no addition; sums in fen.
-#[derive(Clone, Copy)]
+#[derive(Clone, Copy, PartialEq, Eq, Debug)]
 pub enum BaseRule {
     Standard,
     Flat(u64),
 }
 
 // The margin rule that a book is made with.
-#[derive(Clone, Copy)]
+#[derive(Clone, Copy, PartialEq, Eq, Debug)]
 pub enum RuleName {
     Base(BaseRule),
     AddOn { addition: u64, base: BaseRule },
 }
 
-#[derive(Clone, Copy)]
+#[derive(Clone, Copy, PartialEq, Eq, Debug)]
 pub enum Question {
     Cash(u64),
     Margin(u64),
@@ -30,7 +30,7 @@ pub enum Question {
     Statement,
 }
 
-#[derive(Clone, Copy)]
+#[derive(Clone, Copy, PartialEq, Eq, Debug)]
 pub enum Command {
     Book { number: u32, rule: RuleName },
     Call { slip: Option<Shown>, order: Order },

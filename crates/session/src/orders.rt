@@ -2,19 +2,19 @@
 use kinds::terms::Style;
 use margin::rule::Right;
 
-#[derive(Clone, Copy)]
+#[derive(Clone, Copy, PartialEq, Eq, Debug)]
 pub struct Deposit {
     pub account: u64,
     pub amount: u64,
 }
 
-#[derive(Clone, Copy)]
+#[derive(Clone, Copy, PartialEq, Eq, Debug)]
 pub struct Withdrawal {
     pub account: u64,
     pub amount: u64,
 }
 
-#[derive(Clone, Copy)]
+#[derive(Clone, Copy, PartialEq, Eq, Debug)]
 pub struct FutureListing {
     pub number: u64,
     pub units: u64,
@@ -23,7 +23,7 @@ pub struct FutureListing {
     pub price: u64,
 }
 
-#[derive(Clone, Copy)]
+#[derive(Clone, Copy, PartialEq, Eq, Debug)]
 pub struct OptionListing {
     pub number: u64,
     pub future: u64,
@@ -36,7 +36,7 @@ pub struct OptionListing {
 }
 
 // Any call of the session.
-#[derive(Clone, Copy)]
+#[derive(Clone, Copy, PartialEq, Eq, Debug)]
 pub enum Order {
     Deposit(Deposit),
     Withdraw(Withdrawal),

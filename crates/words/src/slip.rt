@@ -5,7 +5,7 @@ ghost use Rattle.words.specs.Slips.{slip_of, shown_by};
 use crate::number::short_number;
 
 // The book and the day that a call's slip is shown for, as `@BOOK.DAY` writes them.
-#[derive(Clone, Copy)]
+#[derive(Clone, Copy, PartialEq, Eq, Debug)]
 pub struct Shown {
     pub book: u32,
     pub day: u32,
