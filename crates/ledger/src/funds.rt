@@ -64,11 +64,10 @@ impl State {
     pub fn frozen_lots(&self, account: AccountNumber, option: u64) -> u64
         ensures { result ≡ frozen_lots_of (view self.now) account option }
     {
-        let mut total = 0;
-        for request in &self.requests {
-            total += u64::from(lots_frozen_by(request, account, option));
-        }
-        total
+        self.requests
+            .iter()
+            .map(|request| u64::from(lots_frozen_by(request, account, option)))
+            .sum()
     }
 
     // The funds that a place of the request table freezes in an account.
