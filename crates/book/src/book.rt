@@ -70,19 +70,19 @@ impl<R: MarginRule> Book<R> {
     pub fn number(&self) -> u32
         ensures { result ≡ (view self.now.state).number }
     {
-        self.state.number
+        self.state.held.number
     }
 
     pub fn day(&self) -> u32
         ensures { result ≡ (view self.now.state).day }
     {
-        self.state.day
+        self.state.held.day
     }
 
     pub fn stage(&self) -> Stage
         ensures { result ≡ (view self.now.state).stage }
     {
-        self.state.stage
+        self.state.held.stage
     }
 
     pub fn cash(&self, account: u64) -> Result<i128, Refusal>
@@ -94,7 +94,7 @@ impl<R: MarginRule> Book<R> {
     pub fn margin(&self, account: u64) -> Result<u128, Refusal>
         ensures { result ≡ margin_answer (view self.now.state) account }
     {
-        Ok(self.state.margin(AccountNumber::try_from(account)?))
+        Ok(self.state.held.margin(AccountNumber::try_from(account)?))
     }
 
     pub fn frozen(&self, account: u64) -> Result<u128, Refusal>
@@ -113,24 +113,25 @@ impl<R: MarginRule> Book<R> {
         ensures { result ≡ holding_answer (view self.now.state) account contract }
     {
         self.state
+            .held
             .position(AccountNumber::try_from(account)?, contract)
     }
 
     pub fn contract(&self, contract: u64) -> Result<Quote, Refusal>
         ensures { result ≡ contract_answer (view self.now.state) contract }
     {
-        self.state.contract(contract)
+        self.state.held.contract(contract)
     }
 
     pub fn draw_lots(&self, contract: u64) -> Result<Holding, Refusal>
         ensures { result ≡ draw_lots_answer (view self.now.state) contract }
     {
-        self.state.draw_lots(contract)
+        self.state.held.draw_lots(contract)
     }
 
     pub fn draw_cash(&self) -> i128
         ensures { result ≡ draw_cash (view self.now.state) }
     {
-        self.state.draw_cash()
+        self.state.held.draw_cash()
     }
 }

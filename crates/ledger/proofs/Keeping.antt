@@ -1,5 +1,5 @@
 -- The invariant as a proposition, and a new book's. Assumes nothing.
-use Rattle.std.proofs.Common.{◌≡◌, ℕ, zero, suc, ◌+◌, ◌-◌, ◌<◌, true, false, cond, ltb, get_or, replicate, pos, Some, None, Option, sym, refl, ap, ◌∙◌, arith}
+use Rattle.std.proofs.Common.{◌≡◌, ℕ, zero, suc, ◌+◌, ◌-◌, ◌<◌, true, false, cond, ltb, get_or, replicate, pos, Some, None, Option, sym, refl, ap, ◌∙◌, inl, inr, arith}
 use mathlib.Core.Logic.{∥∥₁_elim}
 use native.Mathlib.Bridge.{le_prop}
 use base.Stored.{Coded-set, coded_ℕ}
@@ -9,6 +9,7 @@ use Rattle.margin.specs.declared.rule.FutureLot.{FutureLot}
 use Rattle.margin.specs.declared.rule.OptionLot.{OptionLot}
 use Rattle.ledger.specs.Ledger.{Ledger, made, cash_of, opened, no_account, no_holding, future_of, option_of, future_under}
 use Rattle.ledger.specs.Kept.{ShapeKept, FutureKept, Covers, OptionKept, ContractsKept, CashKept, LotsKept, Sound}
+use Rattle.std.proofs.lemmas.Bool.{cases_lt, le-ltb}
 use Rattle.std.proofs.lemmas.Int.{ints}
 use Rattle.ledger.specs.Funds.{all_cash}
 use Rattle.ledger.specs.declared.records.Account.{Account}
@@ -131,3 +132,10 @@ unfolding made
 made_empty n =
     let none = total_to_same 32 (cash_of (made n)) (λ a. pos 0) (λ a h. ap (λ (x : Account). x.cash) (get_or-replicate 32 a opened no_account h)) in
     omega (arith, ints, none, total_to_zero 32)
+
+-- what is listed as a future at any number is within the limits
+pub future_kept : (s : Ledger) → Sound s → (k : ℕ) → FutureKept (future_of s k)
+future_kept s h k = elim (cases_lt k 20) [
+  | inl low ↦ h.contracts.futures k low
+  | inr high ↦ rw (le-ltb k 4 (omega (arith, high))) tt
+]

@@ -2,6 +2,7 @@ pub mod Sums
 pub mod Words
 pub mod Accounts
 pub mod Ledger
+pub mod Read
 pub mod View
 pub mod Slips
 pub mod Funds

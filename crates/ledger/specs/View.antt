@@ -1,7 +1,8 @@
--- How the code's record is read as a ledger. Assumes nothing.
+-- How a book is read as a ledger. Assumes nothing.
 use Rattle.ledger.specs.Ledger.{Ledger}
+use Rattle.ledger.specs.Read.{read}
 use Rattle.ledger.specs.declared.state.State.{State}
 
--- every field of the code's record is in it
+-- all that it holds is in its record
 abbrev pub view : State → Ledger
-view s = record { number = s.number; day = s.day; stage = s.stage; accounts = s.accounts; futures = s.futures; options = s.options.rows; requests = s.requests; draw = s.draw }
+view s = read s.held

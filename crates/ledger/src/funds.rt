@@ -1,12 +1,13 @@
 // Margin, frozen funds, available funds and free lots, each the full sum over holdings and requests.
 ghost use Rattle.std.specs.Prelude.{◌≡◌, ℕ, ◌*◌, ◌^◌, ◌<◌, ◌≤◌, unsigned_abs};
 ghost use Rattle.ledger.specs.Ledger.{cash_of};
+ghost use Rattle.ledger.specs.Read.{read};
 ghost use Rattle.ledger.specs.View.{view};
 ghost use Rattle.ledger.specs.Funds.{contract_margin, margin_of, instructs, lots_frozen_by, funds_frozen_by, frozen_lots_of, free_of, frozen_of, available_of, InRange};
 
 use crate::account::AccountNumber;
 use crate::listed::rate;
-use crate::records::{Channel, Request, Wish};
+use crate::records::{Channel, Record, Request, Wish};
 use crate::state::State;
 use kinds::future::Future;
 use kinds::kind::ContractKind;
@@ -16,15 +17,15 @@ use kinds::terms::Holding;
 
 impl Request {
     // Whether it is an instruction of an account.
-    pub fn instructs(&self, account: AccountNumber) -> bool
+    pub fn instructs(&self, account: usize) -> bool
         ensures { result ≡ instructs account self.now }
     {
-        self.channel == Channel::Instruction && self.account as usize == account.place()
+        self.channel == Channel::Instruction && self.account as usize == account
     }
 }
 
 // The lots that a place of the request table freezes in an account's holding of an option.
-fn lots_frozen_by(request: &Option<Request>, account: AccountNumber, option: u64) -> u32
+pub fn lots_frozen_by(request: &Option<Request>, account: usize, option: u64) -> u32
     ensures { result ≡ lots_frozen_by account option request.now }
 {
     match request {
@@ -35,10 +36,10 @@ fn lots_frozen_by(request: &Option<Request>, account: AccountNumber, option: u64
     }
 }
 
-impl State {
+impl Record {
     // The margin of a whole holding in one contract: both sides of a future bear its rate, of an option the short side.
     pub fn contract_margin(&self, contract: u64, holding: Holding) -> u128
-        ensures margin { result ≡ contract_margin (view self.now) contract holding }
+        ensures margin { result ≡ contract_margin (read self.now) contract holding }
         ensures bound { result ≤ 2 ^ 97 }
     {
         match contract {
@@ -49,7 +50,7 @@ impl State {
 
     // An account's margin.
     pub fn margin(&self, account: AccountNumber) -> u128
-        ensures margin { result ≡ margin_of (view self.now) account }
+        ensures margin { result ≡ margin_of (read self.now) account }
         ensures bound { result ≤ 20 * 2 ^ 97 }
     {
         let holdings = &self.accounts[account.place()].holdings.rows;
@@ -61,18 +62,19 @@ impl State {
     }
 
     // The lots that an account's live instructions freeze in an option.
-    pub fn frozen_lots(&self, account: AccountNumber, option: u64) -> u64
-        ensures { result ≡ frozen_lots_of (view self.now) account option }
+    pub fn frozen_lots(&self, account: usize, option: u64) -> u64
+        ensures { result ≡ frozen_lots_of (read self.now) account option }
     {
         self.requests
+            .places
             .iter()
             .map(|request| u64::from(lots_frozen_by(request, account, option)))
             .sum()
     }
 
     // The funds that a place of the request table freezes in an account.
-    fn funds_frozen_by(&self, request: &Option<Request>, account: AccountNumber) -> u128
-        ensures frozen { result ≡ funds_frozen_by (view self.now) account request.now }
+    pub fn funds_frozen_by(&self, request: &Option<Request>, account: usize) -> u128
+        ensures frozen { result ≡ funds_frozen_by (read self.now) account request.now }
         ensures bound { result ≤ 2 ^ 97 }
     {
         match request {
@@ -85,23 +87,44 @@ impl State {
     }
 
     // The funds that an account's live instruction exercises freeze.
-    pub fn frozen(&self, account: AccountNumber) -> u128
-        ensures frozen { result ≡ frozen_of (view self.now) account }
+    pub fn frozen(&self, account: usize) -> u128
+        ensures frozen { result ≡ frozen_of (read self.now) account }
         ensures bound { result ≤ 256 * 2 ^ 97 }
     {
         let mut total = 0;
-        for request in &self.requests {
+        for request in &self.requests.places {
             total += self.funds_frozen_by(request, account);
         }
         total
     }
 
+    // An account's long lots in a contract that no live instruction has taken.
+    pub fn free_lots(&self, account: AccountNumber, contract: usize) -> u32
+        requires { contract < 20 }
+        ensures { result ≡ free_of (read self.now) account contract }
+    {
+        let long = self.accounts[account.place()].holdings.rows[contract].long;
+        let frozen = self.frozen_lots(account.place(), contract as u64);
+        u64::from(long).saturating_sub(frozen) as u32
+    }
+}
+
+// What is read off a book by an account's number.
+impl State {
     // An account's cash.
     pub fn cash(&self, account: AccountNumber) -> i128
         ensures cash { result ≡ cash_of (view self.now) account }
         ensures range { InRange result }
     {
-        self.accounts[account.place()].cash
+        self.held.accounts[account.place()].cash
+    }
+
+    // The funds that an account's live instruction exercises freeze.
+    pub fn frozen(&self, account: AccountNumber) -> u128
+        ensures frozen { result ≡ frozen_of (view self.now) account }
+        ensures bound { result ≤ 256 * 2 ^ 97 }
+    {
+        self.held.frozen(account.place())
     }
 
     // An account's cash less its margin less its frozen funds.
@@ -109,16 +132,7 @@ impl State {
         ensures funds { result ≡ available_of (view self.now) account }
         ensures bound { unsigned_abs result ≤ 2 ^ 120 }
     {
-        self.cash(account) - self.margin(account) as i128 - self.frozen(account) as i128
-    }
-
-    // An account's long lots in a contract that no live instruction has taken.
-    pub fn free_lots(&self, account: AccountNumber, contract: usize) -> u32
-        requires { contract < 20 }
-        ensures { result ≡ free_of (view self.now) account contract }
-    {
-        let long = self.accounts[account.place()].holdings.rows[contract].long;
-        let frozen = self.frozen_lots(account, contract as u64);
-        u64::from(long).saturating_sub(frozen) as u32
+        let margin = self.held.margin(account);
+        self.cash(account) - margin as i128 - self.frozen(account) as i128
     }
 }

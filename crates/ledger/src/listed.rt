@@ -1,20 +1,18 @@
 // What is listed at a number.
 ghost use Rattle.std.specs.Prelude.{◌≡◌};
 ghost use Rattle.ledger.specs.Ledger.{future_of, option_of, future_under};
-ghost use Rattle.ledger.specs.View.{view};
+ghost use Rattle.ledger.specs.Read.{read};
 ghost use Rattle.ledger.specs.Funds.{rate_of};
-ghost use Rattle.ledger.specs.Kept.{future_lot, FutureKept};
+ghost use Rattle.ledger.specs.Kept.{future_lot};
 
-use crate::records::Contract;
-use crate::state::State;
+use crate::records::{Contract, Record};
 use kinds::terms::{FutureTerms, OptionTerms};
 use margin::rule::FutureLot;
 
-impl State {
-    // The future listed at a number, if any; it is within the limits.
+impl Record {
+    // The future listed at a number, if any.
     pub fn future_at(&self, number: u64) -> Option<Contract<FutureTerms>>
-        ensures listed { result ≡ future_of (view self.now) number }
-        ensures sound { FutureKept result }
+        ensures { result ≡ future_of (read self.now) number }
     {
         match number {
             0..4 => self.futures[number as usize],
@@ -24,7 +22,7 @@ impl State {
 
     // The option listed at a number, if any.
     pub fn option_at(&self, number: u64) -> Option<Contract<OptionTerms>>
-        ensures { result ≡ option_of (view self.now) number }
+        ensures { result ≡ option_of (read self.now) number }
     {
         match number {
             4..20 => self.options.rows[number as usize - 4],
@@ -37,7 +35,7 @@ impl State {
         &self,
         option: Option<Contract<OptionTerms>>,
     ) -> Option<Contract<FutureTerms>>
-        ensures { result ≡ future_under (view self.now) option }
+        ensures { result ≡ future_under (read self.now) option }
     {
         self.future_at(u64::from(option?.terms.future))
     }

@@ -2,12 +2,11 @@
 ghost use Rattle.std.specs.Prelude.{◌≡◌, Some};
 ghost use Rattle.ledger.specs.Ledger.{draw_cash};
 ghost use Rattle.ledger.specs.Questions.{quote_of, contract_answer, position_answer, draw_lots_answer};
-ghost use Rattle.ledger.specs.View.{view};
+ghost use Rattle.ledger.specs.Read.{read};
 ghost use Rattle.ledger.specs.Words.{position_text, quote_text};
 
 use crate::account::AccountNumber;
-use crate::records::{Contract, NO_LOTS};
-use crate::state::State;
+use crate::records::{Contract, NO_LOTS, Record};
 use kinds::terms::Holding;
 use refusals::Refusal;
 use std::fmt;
@@ -59,10 +58,10 @@ impl<T: Drop> Contract<T> {
     }
 }
 
-impl State {
+impl Record {
     // What is listed at a number, a future or an option.
     fn quote_at(&self, number: u64) -> Option<Quote>
-        ensures { result ≡ quote_of (view self.now) number }
+        ensures { result ≡ quote_of (read self.now) number }
     {
         self.future_at(number)
             .map(|future| future.quote())
@@ -70,14 +69,14 @@ impl State {
     }
 
     pub fn contract(&self, number: u64) -> Result<Quote, Refusal>
-        ensures { result ≡ contract_answer (view self.now) number }
+        ensures { result ≡ contract_answer (read self.now) number }
     {
         self.quote_at(number).ok_or(Refusal::NoSuch(number))
     }
 
     // An account's lots in a contract.
     pub fn position(&self, account: AccountNumber, contract: u64) -> Result<Position, Refusal>
-        ensures { result ≡ position_answer (view self.now) account contract }
+        ensures { result ≡ position_answer (read self.now) account contract }
     {
         self.contract(contract)?;
         let held = self.accounts[account.place()].holdings.rows[contract as usize];
@@ -90,7 +89,7 @@ impl State {
 
     // The open draw's lots in a contract.
     pub fn draw_lots(&self, contract: u64) -> Result<Holding, Refusal>
-        ensures { result ≡ draw_lots_answer (view self.now) contract }
+        ensures { result ≡ draw_lots_answer (read self.now) contract }
     {
         self.contract(contract)?;
         Ok(match &self.draw {
@@ -101,7 +100,7 @@ impl State {
 
     // The open draw's cash.
     pub fn draw_cash(&self) -> i128
-        ensures { result ≡ draw_cash (view self.now) }
+        ensures { result ≡ draw_cash (read self.now) }
     {
         match &self.draw {
             Some(draw) => draw.cash,

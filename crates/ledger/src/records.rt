@@ -1,9 +1,9 @@
 // The plain records inside a book. A call's fields are 64 bits wide, so that any number can be brought and named in a refusal;
 // the records are as narrow as the limits allow. Money is in fen.
-ghost use Rattle.std.specs.Prelude.{◌≡◌, ◌<◌, Some, slice_set};
+ghost use Rattle.std.specs.Prelude.{◌≡◌, ◌<◌, Some, length, slice_set};
 ghost use Rattle.ledger.specs.Words.{stage_word};
 
-use kinds::terms::{Holding, OptionTerms};
+use kinds::terms::{FutureTerms, Holding, OptionTerms};
 use std::fmt;
 
 // A holding in each of the twenty contracts: futures 0 to 3, options 4 to 19.
@@ -95,6 +95,13 @@ impl fmt::Display for Stage {
     }
 }
 
+// The day's request table.
+#[derive(Clone, Copy)]
+pub struct RequestTable {
+    pub places: [Option<Request>; 256],
+    pub ghost whole: { length places ≡ 256 },
+}
+
 // What a slip bears: the book's number, the day and the stage that it was given for.
 #[derive(Clone, Copy)]
 pub struct Slip {
@@ -108,6 +115,19 @@ pub struct Slip {
 pub struct OpenDraw {
     pub cash: i128,
     pub holdings: Holdings,
+}
+
+// All that a book holds, whatever stands in it.
+#[derive(Clone, Copy)]
+pub struct Record {
+    pub number: u32,
+    pub day: u32,
+    pub stage: Stage,
+    pub accounts: [Account; 32],
+    pub futures: [Option<Contract<FutureTerms>>; 4],
+    pub options: OptionTable,
+    pub requests: RequestTable,
+    pub draw: Option<OpenDraw>,
 }
 
 // What a call that was carried out tells.

@@ -23,7 +23,7 @@ pub fn check_deposit(state: &State, slip: Slip, order: Deposit) -> Result<Accoun
     ensures rows { result_err result ≡ deposit_refusal (view state.now) slip order }
     ensures account { IfOk result (λ account. account ≡ order.account) }
 {
-    state.admit(slip, Stage::Trading)?;
+    state.held.admit(slip, Stage::Trading)?;
     let account = AccountNumber::try_from(order.account)?;
     if outside(1, MOST_AMOUNT, order.amount) {
         return Err(Refusal::OutOfLimits(2));
@@ -40,6 +40,6 @@ pub fn deposit(state: &mut State, slip: Slip, order: Deposit) -> Result<(), Refu
 {
     let account = check_deposit(state, slip, order)?;
     let cash = state.cash(account) + i128::from(order.amount);
-    state.set_cash(account, cash);
+    state.book_cash(account, cash);
     Ok(())
 }

@@ -2,6 +2,7 @@
 ghost use Rattle.std.specs.Prelude.{◌≡◌, OnOk};
 ghost use Rattle.std.specs.Result.{result_err};
 ghost use Rattle.ledger.specs.Calls.{Performs, plainly};
+ghost use Rattle.ledger.specs.Read.{read};
 ghost use Rattle.ledger.specs.View.{view};
 ghost use Rattle.margin.specs.Limits.{FutureWithin};
 ghost use Rattle.session.specs.Listings.{future_listing_refusal, future_listed, listed_future, future_contract, FutureListable};
@@ -9,7 +10,7 @@ ghost use Rattle.session.specs.Listings.{future_listing_refusal, future_listed, 
 use crate::limits::{bad_price, outside};
 use crate::orders::FutureListing;
 use kinds::terms::FutureTerms;
-use ledger::records::{Contract, Slip, Stage};
+use ledger::records::{Contract, Record, Slip, Stage};
 use ledger::state::State;
 use margin::rule::{FutureLot, MarginRule};
 use refusals::Refusal;
@@ -45,11 +46,11 @@ impl FutureListing {
 }
 
 // Whether a row refuses the listing; one that none refuses is within the limits.
-pub fn check_future(state: &State, slip: Slip, order: FutureListing) -> Result<(), Refusal>
-    ensures rows { result_err result ≡ future_listing_refusal (view state.now) slip order }
+pub fn check_future(held: &Record, slip: Slip, order: FutureListing) -> Result<(), Refusal>
+    ensures rows { result_err result ≡ future_listing_refusal (read held.now) slip order }
     ensures within { OnOk result (FutureListable order) }
 {
-    state.admit(slip, Stage::Trading)?;
+    held.admit(slip, Stage::Trading)?;
     if order.number >= 4 {
         return Err(Refusal::NoSuch(order.number));
     }
@@ -65,7 +66,7 @@ pub fn check_future(state: &State, slip: Slip, order: FutureListing) -> Result<(
     if bad_price(order.tick, order.price) {
         return Err(Refusal::OutOfLimits(5));
     }
-    if state.future_at(order.number).is_some() {
+    if held.future_at(order.number).is_some() {
         return Err(Refusal::Occupied(order.number));
     }
     Ok(())
@@ -80,9 +81,9 @@ pub fn list_future<R: MarginRule>(
 ) -> Result<(), Refusal>
     ensures { Performs plainly (future_listed (R.meaning rule.now) (view state.old) slip order) state.old state.new result }
 {
-    check_future(state, slip, order)?;
+    check_future(&state.held, slip, order)?;
     let rate = rule.future_sum(order.lot());
     let future = order.contract(rate);
-    state.set_future(order.number as usize, future);
+    state.list_future(order.number as usize, future);
     Ok(())
 }

@@ -4,6 +4,7 @@ ghost use Rattle.std.specs.Result.{result_err};
 ghost use Rattle.ledger.specs.Calls.{Performs, plainly};
 ghost use Rattle.ledger.specs.Kept.{FutureSound};
 ghost use Rattle.ledger.specs.Ledger.{future_of};
+ghost use Rattle.ledger.specs.Read.{read};
 ghost use Rattle.ledger.specs.View.{view};
 ghost use Rattle.margin.specs.Limits.{OptionWithin};
 ghost use Rattle.session.specs.Listings.{option_listing_refusal, option_listed, listed_option, option_contract, OptionListable};
@@ -11,7 +12,7 @@ ghost use Rattle.session.specs.Listings.{option_listing_refusal, option_listed, 
 use crate::limits::{bad_price, outside};
 use crate::orders::OptionListing;
 use kinds::terms::{FutureTerms, OptionTerms};
-use ledger::records::{Contract, Slip, Stage};
+use ledger::records::{Contract, Record, Slip, Stage};
 use ledger::state::State;
 use margin::rule::{MarginRule, OptionLot};
 use refusals::Refusal;
@@ -51,20 +52,19 @@ impl OptionListing {
 
 // The future that the option is on, where no row refuses the listing, which then is within the limits.
 pub fn check_option(
-    state: &State,
+    held: &Record,
     slip: Slip,
     order: OptionListing,
 ) -> Result<Contract<FutureTerms>, Refusal>
-    ensures rows { result_err result ≡ option_listing_refusal (view state.now) slip order }
-    ensures future { IfOk result (λ future. future_of (view state.now) order.future ≡ Some future) }
-    ensures sound { IfOk result FutureSound }
-    ensures within { OnOk result (OptionListable state.now.day order) }
+    ensures rows { result_err result ≡ option_listing_refusal (read held.now) slip order }
+    ensures future { IfOk result (λ future. future_of (read held.now) order.future ≡ Some future) }
+    ensures within { OnOk result (OptionListable held.now.day order) }
 {
-    state.admit(slip, Stage::Trading)?;
+    held.admit(slip, Stage::Trading)?;
     if outside(4, 19, order.number) {
         return Err(Refusal::NoSuch(order.number));
     }
-    let future = state
+    let future = held
         .future_at(order.future)
         .ok_or(Refusal::NoSuch(order.future))?;
     if outside(1, 99_999_999, order.strike) {
@@ -73,16 +73,30 @@ pub fn check_option(
     if outside(1, 100_000, order.tick) {
         return Err(Refusal::OutOfLimits(6));
     }
-    if outside(u64::from(state.day), 1_000_000, order.last_day) {
+    if outside(u64::from(held.day), 1_000_000, order.last_day) {
         return Err(Refusal::OutOfLimits(7));
     }
     if bad_price(order.tick, order.price) {
         return Err(Refusal::OutOfLimits(8));
     }
-    if state.option_at(order.number).is_some() {
+    if held.option_at(order.number).is_some() {
         return Err(Refusal::Occupied(order.number));
     }
     Ok(future)
+}
+
+// The same in a book, where every listed future is within the limits.
+fn check_in_book(
+    state: &State,
+    slip: Slip,
+    order: OptionListing,
+) -> Result<Contract<FutureTerms>, Refusal>
+    ensures rows { result_err result ≡ option_listing_refusal (view state.now) slip order }
+    ensures future { IfOk result (λ future. future_of (view state.now) order.future ≡ Some future) }
+    ensures sound { IfOk result FutureSound }
+    ensures within { OnOk result (OptionListable state.now.held.day order) }
+{
+    check_option(&state.held, slip, order)
 }
 
 // The rate is asked at the price carried for the future and the price listed for the option.
@@ -95,9 +109,9 @@ pub fn list_option<R: MarginRule>(
 ) -> Result<(), Refusal>
     ensures { Performs plainly (option_listed (R.meaning rule.now) (view state.old) slip order) state.old state.new result }
 {
-    let future = check_option(state, slip, order)?;
+    let future = check_in_book(state, slip, order)?;
     let rate = rule.option_sum(future.lot(), order.lot());
     let option = order.contract(rate);
-    state.set_option(order.number as usize, option);
+    state.list_option(order.number as usize, option);
     Ok(())
 }

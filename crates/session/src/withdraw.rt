@@ -30,7 +30,7 @@ pub fn check_withdrawal(
     ensures rows { result_err result ≡ withdrawal_refusal (view state.now) slip order }
     ensures account { IfOk result (λ account. account ≡ order.account) }
 {
-    state.admit(slip, Stage::Trading)?;
+    state.held.admit(slip, Stage::Trading)?;
     let account = AccountNumber::try_from(order.account)?;
     if outside(1, MOST_AMOUNT, order.amount) {
         return Err(Refusal::OutOfLimits(2));
@@ -47,6 +47,6 @@ pub fn withdraw(state: &mut State, slip: Slip, order: Withdrawal) -> Result<(), 
 {
     let account = check_withdrawal(state, slip, order)?;
     let cash = state.cash(account) - i128::from(order.amount);
-    state.set_cash(account, cash);
+    state.book_cash(account, cash);
     Ok(())
 }
