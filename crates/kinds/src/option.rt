@@ -16,6 +16,7 @@ pub struct OptionContract<R> {
     pub right: PhantomData<R>,
 }
 
+// The two kinds of options.
 pub type CallOption = OptionContract<CallRight>;
 
 pub type PutOption = OptionContract<PutRight>;

@@ -3,6 +3,7 @@ use Rattle.std.specs.Prelude.{ℕ, ◌+◌, ◌-◌, ◌*◌, ◌^◌, ◌≤◌
 use Rattle.ledger.specs.Sums.{sum_to, total_to}
 use Rattle.ledger.specs.Ledger.{Ledger, cash_of, holding_of, long_of, future_of, option_of, future_under, draw_cash}
 use Rattle.ledger.specs.declared.records.Contract.{Contract}
+use Rattle.kinds.specs.Kinds.{future_sums, option_sums}
 use Rattle.kinds.specs.declared.terms.Holding.{Holding}
 use Rattle.ledger.specs.declared.records.Request.{Request}
 use Rattle.ledger.specs.declared.records.Wish.{Wish}
@@ -15,24 +16,20 @@ abbrev pub rate_of : {T : Type 0} → Option (Contract T) → ℕ
 rate_of None = 0
 rate_of (Some x) = x.rate
 
--- the margin of a whole holding: both sides of a future bear the rate, of an option the short side
-abbrev pub future_margin : ℕ → Holding → ℕ
-future_margin rate h = (h.long + h.short) * rate
-
-abbrev pub option_margin : ℕ → Holding → ℕ
-option_margin rate h = h.short * rate
-
+-- the margin of a whole holding in a contract, at its rate: both sides of a future bear it, of an option the short side
 abbrev pub contract_margin : Ledger → ℕ → Holding → ℕ
-contract_margin s k h = cond (nat_lt k 4) (future_margin (rate_of (future_of s k)) h) (option_margin (rate_of (option_of s k)) h)
+contract_margin s k h = cond (nat_lt k 4) (future_sums.margin (rate_of (future_of s k)) h) (option_sums.margin (rate_of (option_of s k)) h)
 
 -- an account's margin, over its twenty holdings
 abbrev pub margin_of : Ledger → ℕ → ℕ
 margin_of s a = sum_to 20 (λ k. contract_margin s k (holding_of s a k))
 
+-- an instruction freezes what it needs, a service request nothing
 abbrev pub is_instruction : Channel → Bool
 is_instruction Instruction = true
 is_instruction Service = false
 
+-- an exercise needs funds, an abandonment none
 abbrev pub is_exercise : Wish → Bool
 is_exercise Exercise = true
 is_exercise Abandon = false
@@ -51,6 +48,7 @@ abbrev pub funds_frozen_by : Ledger → ℕ → Option Request → ℕ
 funds_frozen_by s a None = 0
 funds_frozen_by s a (Some q) = cond (instructs a q && is_exercise q.wish) (q.lots * rate_of (future_under s (option_of s q.option))) 0
 
+-- over the whole request table, the lots
 abbrev pub frozen_lots_of : Ledger → ℕ → ℕ → ℕ
 frozen_lots_of s a k = sum_by (lots_frozen_by a k) s.requests
 
@@ -58,9 +56,11 @@ frozen_lots_of s a k = sum_by (lots_frozen_by a k) s.requests
 abbrev pub free_of : Ledger → ℕ → ℕ → ℕ
 free_of s a k = long_of s a k - frozen_lots_of s a k
 
+-- and the funds
 abbrev pub frozen_of : Ledger → ℕ → ℕ
 frozen_of s a = sum_by (funds_frozen_by s a) s.requests
 
+-- cash less margin less frozen funds
 abbrev pub available_of : Ledger → ℕ → ℤ
 available_of s a = cash_of s a -ℤ pos (margin_of s a) -ℤ pos (frozen_of s a)
 

@@ -68,6 +68,7 @@ impl Record {
             .or_else(|| self.option_at(number).map(|option| option.quote()))
     }
 
+    // The same, or the refusal of a number at which nothing is listed.
     pub fn contract(&self, number: u64) -> Result<Quote, Refusal>
         ensures { result ≡ contract_answer (read self.now) number }
     {

@@ -22,6 +22,7 @@ impl Holdings {
     }
 }
 
+// An account's cash and its holdings.
 #[derive(Clone, Copy)]
 pub struct Account {
     pub cash: i128,
@@ -52,6 +53,7 @@ impl OptionTable {
     }
 }
 
+// What a request asks for.
 #[derive(Clone, Copy, PartialEq, Eq)]
 pub enum Wish {
     Exercise,
@@ -95,7 +97,7 @@ impl fmt::Display for Stage {
     }
 }
 
-// The day's request table.
+// The day's request table; that it has its places stands in its type, so that no reader of it has to ask.
 #[derive(Clone, Copy)]
 pub struct RequestTable {
     pub places: [Option<Request>; 256],

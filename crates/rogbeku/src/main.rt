@@ -2,15 +2,17 @@
 #![tactic(auto)]
 
 mod desk;
+mod faults;
 mod play;
 mod statement;
 mod teller;
 mod today;
 
 use anyhow::anyhow;
+use faults::tell_faults;
 use play::play;
 use script::error::ReadError;
-use script::reading::{Fault, script};
+use script::reading::script;
 use std::io::{BufReader, BufWriter, Read, Write};
 use std::{env, fs, io};
 
@@ -26,14 +28,6 @@ fn input(rt: &HostRuntime) -> io::Result<Vec<u8>> {
             Ok(text)
         }
     }
-}
-
-// Names each line that cannot be read. Gives the writer back.
-fn tell_faults<W: Write + Drop>(mut out: W, faults: &[Fault]) -> io::Result<W> {
-    for fault in faults {
-        writeln!(out, "line {}: unreadable: {}", fault.line, fault.why)?;
-    }
-    Ok(out)
 }
 
 fn run(rt: &HostRuntime) -> anyhow::Result<()> {

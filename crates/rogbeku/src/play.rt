@@ -1,10 +1,9 @@
 // A whole script: the book is made with its rule, and each command is carried out and answered in turn.
-ghost use Rattle.std.specs.Prelude.{◌≡◌, ℕ, ◌^◌, ◌++◌, IfOk};
+ghost use Rattle.std.specs.Prelude.{◌≡◌, ◌^◌, IfOk};
 ghost use Rattle.std.specs.Io.KnownBytes.{Appends};
 ghost use Rattle.margin.specs.AddOn.{added};
 ghost use Rattle.margin.specs.Flat.{flat as flat_rule};
-ghost use Rattle.rogbeku.specs.Commands.{within, raised_by, meant, opened, Plays};
-ghost use Rattle.rogbeku.specs.Lines.{tally_of};
+ghost use Rattle.rogbeku.specs.Opening.{within, raised_by, meant, opened, Plays};
 
 use crate::desk::Desk;
 use crate::teller::Teller;
@@ -52,7 +51,7 @@ fn run_book<R: MarginRule + Drop, W: Write + Drop>(
     opening: Opening,
     commands: &[Line],
 ) -> io::Result<W>
-    ensures { IfOk result (λ written. (done refused : ℕ) × Appends (W.contents out) (W.contents written) (opened (meant R.meaning rule) opening.line opening.number commands.now ++ tally_of done refused)) }
+    ensures { IfOk result (λ written. Appends (W.contents out) (W.contents written) (opened (meant R.meaning rule) opening.line opening.number commands.now)) }
 {
     let mut teller = Teller::new(out);
     match rule {

@@ -14,14 +14,14 @@ use std::{fmt, io};
 
 // An account's cash, margin, frozen funds and available funds.
 #[derive(Clone, Copy)]
-pub struct Funds {
+pub struct AccountFunds {
     cash: i128,
     margin: u128,
     frozen: u128,
     available: i128,
 }
 
-impl fmt::Display for Funds {
+impl fmt::Display for AccountFunds {
     ghost output = { λ funds. Some (funds_text funds) };
 
     fn fmt<W: fmt::Write>(&self, f: &mut fmt::Formatter<W>) -> fmt::Result {
@@ -33,10 +33,10 @@ impl fmt::Display for Funds {
     }
 }
 
-fn funds_of<R: MarginRule>(book: &Book<R>, account: u64) -> Result<Funds, Refusal>
+fn funds_of<R: MarginRule>(book: &Book<R>, account: u64) -> Result<AccountFunds, Refusal>
     ensures { result ≡ of_account account (funds_of (view book.now.state) account) }
 {
-    Ok(Funds {
+    Ok(AccountFunds {
         cash: book.cash(account)?,
         margin: book.margin(account)?,
         frozen: book.frozen(account)?,
@@ -72,7 +72,7 @@ fn is_idle<R: MarginRule>(book: &Book<R>, account: u64) -> bool
     book.cash(account) == Ok(0) && !holds_any(book, account)
 }
 
-fn tell_funds<W: Write>(out: &mut W, account: u64, funds: Funds) -> io::Result<()>
+fn tell_funds<W: Write>(out: &mut W, account: u64, funds: AccountFunds) -> io::Result<()>
     ensures { OnOk result (Appends (W.contents out.old) (W.contents out.new) (funds_line account funds)) }
 {
     writeln!(out, "  account {account} {funds}")

@@ -22,9 +22,11 @@ deposit_refusal s slip d =
     (cond (int_lt (pos (10 ^ 18)) (cash_of s d.account +ℤ pos d.amount)) (Some (BeyondRange d.account))
     None)))
 
+-- the account has the amount more
 abbrev pub deposit_effect : Ledger → Deposit → Ledger
 deposit_effect s d = with_cash s d.account (cash_of s d.account +ℤ pos d.amount)
 
+-- what a deposit comes to
 unfoldable pub deposited : Ledger → Slip → Deposit → Outcome
 deposited s slip d = unless (deposit_refusal s slip d) Done (deposit_effect s d)
 
@@ -37,8 +39,10 @@ withdrawal_refusal s slip w =
     (cond (int_lt (available_of s w.account -ℤ pos w.amount) (pos 0)) (Some (ShortOfFunds w.account))
     None)))
 
+-- the account has the amount less
 abbrev pub withdrawal_effect : Ledger → Withdrawal → Ledger
 withdrawal_effect s w = with_cash s w.account (cash_of s w.account -ℤ pos w.amount)
 
+-- what a withdrawal comes to
 unfoldable pub withdrawn : Ledger → Slip → Withdrawal → Outcome
 withdrawn s slip w = unless (withdrawal_refusal s slip w) Done (withdrawal_effect s w)

@@ -16,7 +16,7 @@ use margin::rule::{FutureLot, MarginRule};
 use refusals::Refusal;
 
 impl FutureListing {
-    // What the margin rule is asked with.
+    // What the margin rule is asked with. A cast that loses bits is refused where it stands, and `try_from` would need an error that never comes.
     pub fn lot(self) -> FutureLot
         requires { FutureWithin (listed_future self) }
         ensures { result ≡ listed_future self }

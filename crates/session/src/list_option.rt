@@ -18,7 +18,7 @@ use margin::rule::{MarginRule, OptionLot};
 use refusals::Refusal;
 
 impl OptionListing {
-    // What the margin rule is asked with.
+    // What the margin rule is asked with. A cast that loses bits is refused where it stands, and `try_from` would need an error that never comes.
     pub fn lot(self) -> OptionLot
         requires { OptionWithin (listed_option self) }
         ensures { result ≡ listed_option self }
@@ -85,8 +85,8 @@ pub fn check_option(
     Ok(future)
 }
 
-// The same in a book, where every listed future is within the limits.
-fn check_in_book(
+// The same in a book, where a listed future is within the limits.
+fn check_listing(
     state: &State,
     slip: Slip,
     order: OptionListing,
@@ -109,7 +109,7 @@ pub fn list_option<R: MarginRule>(
 ) -> Result<(), Refusal>
     ensures { Performs plainly (option_listed (R.meaning rule.now) (view state.old) slip order) state.old state.new result }
 {
-    let future = check_in_book(state, slip, order)?;
+    let future = check_listing(state, slip, order)?;
     let rate = rule.option_sum(future.lot(), order.lot());
     let option = order.contract(rate);
     state.list_option(order.number as usize, option);
