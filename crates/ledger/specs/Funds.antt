@@ -38,19 +38,22 @@ is_exercise Abandon = false
 abbrev pub instructs : ℕ → Request → Bool
 instructs a q = is_instruction q.channel && q.account == a
 
--- the lots that a place of the request table freezes in an account's holding of an option
-abbrev pub lots_frozen_by : ℕ → ℕ → Option Request → ℕ
-lots_frozen_by a k None = 0
-lots_frozen_by a k (Some q) = cond (instructs a q && q.option == k) q.lots 0
+-- the lots that a request freezes in an account's holding of an option
+abbrev pub lots_frozen_by : ℕ → ℕ → Request → ℕ
+lots_frozen_by a k q = cond (instructs a q && q.option == k) q.lots 0
 
--- the funds that a place of the request table freezes in an account: its lots at the margin rate of the option's future
-abbrev pub funds_frozen_by : Ledger → ℕ → Option Request → ℕ
-funds_frozen_by s a None = 0
-funds_frozen_by s a (Some q) = cond (instructs a q && is_exercise q.wish) (q.lots * rate_of (future_under s (option_of s q.option))) 0
+-- the funds that a request freezes in an account: its lots at the margin rate of the option's future
+abbrev pub funds_frozen_by : Ledger → ℕ → Request → ℕ
+funds_frozen_by s a q = cond (instructs a q && is_exercise q.wish) (q.lots * rate_of (future_under s (option_of s q.option))) 0
+
+-- of a place of the request table; one that no request has taken freezes nothing
+abbrev pub of_place : (Request → ℕ) → Option Request → ℕ
+of_place f None = 0
+of_place f (Some q) = f q
 
 -- over the whole request table, the lots
 abbrev pub frozen_lots_of : Ledger → ℕ → ℕ → ℕ
-frozen_lots_of s a k = sum_by (lots_frozen_by a k) s.requests
+frozen_lots_of s a k = sum_by (of_place (lots_frozen_by a k)) s.requests
 
 -- long lots that no live instruction has taken
 abbrev pub free_of : Ledger → ℕ → ℕ → ℕ
@@ -58,7 +61,7 @@ free_of s a k = long_of s a k - frozen_lots_of s a k
 
 -- and the funds
 abbrev pub frozen_of : Ledger → ℕ → ℕ
-frozen_of s a = sum_by (funds_frozen_by s a) s.requests
+frozen_of s a = sum_by (of_place (funds_frozen_by s a)) s.requests
 
 -- cash less margin less frozen funds
 abbrev pub available_of : Ledger → ℕ → ℤ

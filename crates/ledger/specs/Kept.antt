@@ -82,6 +82,6 @@ pub record Sound (s : Ledger) : Type 0 where
   pub cash : CashKept s
   pub lots : LotsKept s
 
--- the same as a proposition
+-- what every book keeps, as a proposition
 abbrev pub Kept : Ledger → Type 0
 Kept s = ∥ Sound s ∥₁

@@ -10,11 +10,7 @@ use kinds::terms::{FutureTerms, OptionTerms};
 use margin::rule::FutureLot;
 
 // What is listed at a number in a table whose first row has the number `first`.
-fn row<T: Copy>(
-    rows: &[Option<Contract<T>>],
-    first: u64,
-    number: u64,
-) -> Option<Contract<T>>
+fn row<T: Copy>(rows: &[Option<Contract<T>>], first: u64, number: u64) -> Option<Contract<T>>
     ensures { result ≡ row_of rows.now first number }
 {
     let place = number.checked_sub(first)?;

@@ -1,5 +1,5 @@
 -- Deposits and withdrawals: the rows in their order, and what is done. Assumes nothing.
-use Rattle.std.specs.Prelude.{◌^◌, cond, pos, ◌+ℤ◌, ◌-ℤ◌, Some, None, Option, int_lt, nat_le}
+use Rattle.std.specs.Prelude.{ℕ, ◌^◌, cond, pos, ◌+ℤ◌, ◌-ℤ◌, Some, None, Option, Ok, Err, Result, int_lt, nat_le}
 use Rattle.refusals.specs.declared.Refusal.{Refusal}
 use Rattle.refusals.specs.declared.Refusal.TheVariants.{WrongSlip, NoSuch, OutOfLimits, ShortOfFunds, BeyondRange}
 use Rattle.ledger.specs.Ledger.{Ledger, cash_of, with_cash}
@@ -12,6 +12,14 @@ use Rattle.ledger.specs.declared.records.Stage.TheVariants.{Trading}
 use Rattle.session.specs.Limits.{outside}
 use Rattle.session.specs.declared.orders.Deposit.{Deposit}
 use Rattle.session.specs.declared.orders.Withdrawal.{Withdrawal}
+
+-- the rows that deposits and withdrawals share: the slip, the account, the amount
+abbrev pub payable : Ledger → Slip → ℕ → ℕ → Result ℕ Refusal
+payable s slip account amount =
+    cond (wrong_slip s slip Trading) (Err (WrongSlip slip.number))
+    (cond (nat_le 32 account) (Err (NoSuch account))
+    (cond (outside 1 (10 ^ 15) amount) (Err (OutOfLimits 2))
+    (Ok account)))
 
 -- no cash may rise above 10^18 fen
 abbrev pub deposit_refusal : Ledger → Slip → Deposit → Option Refusal

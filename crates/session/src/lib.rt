@@ -6,4 +6,5 @@ pub mod limits;
 pub mod list_future;
 pub mod list_option;
 pub mod orders;
+pub mod payment;
 pub mod withdraw;
