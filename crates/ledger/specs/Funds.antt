@@ -1,5 +1,5 @@
 -- Margin, frozen funds, available funds and free lots: full sums over the holdings and the requests. Assumes nothing.
-use Rattle.std.specs.Prelude.{ℕ, ◌+◌, ◌-◌, ◌*◌, ◌^◌, ◌≤◌, Bool, true, false, cond, ◌&&◌, ℤ, pos, ◌+ℤ◌, ◌-ℤ◌, Some, None, sum_by, Option, ◌==◌, nat_lt, unsigned_abs}
+use Rattle.std.specs.Prelude.{ℕ, ◌-◌, ◌*◌, ◌^◌, ◌≤◌, Bool, true, false, cond, ◌&&◌, ℤ, pos, ◌+ℤ◌, ◌-ℤ◌, Some, None, sum_by, Option, ◌==◌, nat_lt, unsigned_abs}
 use Rattle.ledger.specs.Sums.{sum_to, total_to}
 use Rattle.ledger.specs.Ledger.{Ledger, cash_of, holding_of, long_of, future_of, option_of, future_under, draw_cash}
 use Rattle.ledger.specs.declared.records.Contract.{Contract}

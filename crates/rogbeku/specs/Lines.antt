@@ -4,7 +4,7 @@ use Rattle.std.specs.Option.{option_map}
 use Rattle.std.specs.Fmt.{decimal}
 use Rattle.refusals.specs.declared.Refusal.{Refusal}
 use Rattle.refusals.specs.Words.{refusal_text}
-use Rattle.words.specs.Reasons.{reason_of}
+use Rattle.script.specs.Readings.{fault_text}
 use Rattle.script.specs.declared.reading.Fault.{Fault}
 
 -- a line of the script by its number, and what is told of it
@@ -20,6 +20,6 @@ answered output (Err refusal) = Some (refusal_text refusal)
 abbrev pub tally_of : ℕ → ℕ → List ℕ
 tally_of done refused = decimal done ++ codes " done, " ++ decimal refused ++ codes " refused\n"
 
--- a line that cannot be read, by its number, and why
+-- a line that cannot be read, as it is told
 abbrev pub fault_line : Fault → List ℕ
-fault_line fault = codes "line " ++ (decimal fault.line ++ (codes ": unreadable: " ++ (reason_of fault.why ++ codes "\n")))
+fault_line fault = fault_text fault ++ codes "\n"

@@ -44,6 +44,7 @@ fn written<R: MarginRule>(book: &Book<R>, slip: Option<Shown>, order: Order) -> 
     }
 }
 
+// The book, where its answers go, and the memory that a run takes.
 #[derive(Drop)]
 pub struct Desk<R: MarginRule, W> {
     pub book: Book<R>,
@@ -92,6 +93,7 @@ impl<R: MarginRule, W: Write> Desk<R, W> {
         }
     }
 
+    // A question is answered, and changes nothing.
     fn ask(&mut self, line: u64, question: Question) -> io::Result<()>
         ensures prints { OnOk result (Appends (W.contents self.old.teller.out) (W.contents self.new.teller.out) (asked (view self.old.book.state) line question)) }
         ensures counts { OnOk result (count_of self.new.teller ≡ after_question (is_refused (view self.old.book.state) question) (count_of self.old.teller)) }

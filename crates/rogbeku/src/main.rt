@@ -33,14 +33,15 @@ fn input(rt: &HostRuntime) -> io::Result<Vec<u8>> {
 fn run(rt: &HostRuntime) -> anyhow::Result<()> {
     let heap = rt.alloc();
     let text = input(rt)?;
-    let out = BufWriter::new(heap, rt.stdout())?;
+    let mut out = BufWriter::new(heap, rt.stdout())?;
     match script(heap, text.as_slice()) {
         Ok(lines) => {
             play(out, heap, lines.as_slice())?.flush()?;
             Ok(())
         }
         Err(ReadError::Text(faults)) => {
-            tell_faults(out, faults.as_slice())?.flush()?;
+            tell_faults(&mut out, faults.as_slice())?;
+            out.flush()?;
             Err(anyhow!("the script cannot be read"))
         }
         Err(ReadError::Memory(error)) => Err(error.into()),

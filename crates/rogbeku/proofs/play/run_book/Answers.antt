@@ -16,7 +16,7 @@ returns-in_ok-carry_out_all-in-Ok g c =
     let did = c.in_ok-carry_out_all-in-Ok.ensures in
     let all = rw (c.new-book.ensures.rule, c.new-book.ensures.stands) at did.prints in
     let start : count_of c.carried_out.new.self ≡ made_alone = search rules in
-    let count = rw (c.new-book.ensures.rule, c.new-book.ensures.stands) at did.counts ∙ ap (all_counted rule (made c.args.opening.number) c.args.commands.now) start in
+    let count = rw (c.new-book.ensures.rule, c.new-book.ensures.stands) at did.counts ∙ ap (all_counted rule (made c.args.making.number) c.args.commands.now) start in
     let teller = c.carry_out_all.new.self.teller in
     rw c.in-Ok.is (IfOk-weaker c.end.result _ _ (λ written last. appends_more _ _ _ _ _ (appends_more _ _ _ _ _ first all) (subst (λ n. Appends (contents teller.out) (contents written) (told_count n)) count last)) c.end.ensures)
 
