@@ -19,6 +19,7 @@ use Rattle.session.specs.declared.orders.Order.{Order}
 use Rattle.session.specs.declared.orders.Order.TheVariants.{Deposit as Depositing, Withdraw, ListFuture, ListOption}
 use Rattle.book.specs.declared.calls.Call.{Call}
 
+-- a call with its slip
 pub data Act : Type 0 where
   depositing : Slip → Deposit → Act
   withdrawing : Slip → Withdrawal → Act

@@ -1,3 +1,4 @@
+// The calls and questions of a book, in the trade's names. Each call leaves the rule as it was, which no type says for it.
 ghost use Rattle.std.specs.Prelude.{◌≡◌};
 ghost use Rattle.book.specs.Slips.{shown};
 ghost use Rattle.ledger.specs.Calls.{Performs, plainly};

@@ -1,4 +1,4 @@
-// The book: the public calls and questions. Each is one line over the layer below, and its promise an equation for every input.
+// The book: the public calls and questions. The promise of each is an equation for every input.
 #![tactic(auto)]
 
 pub mod book;

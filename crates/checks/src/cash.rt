@@ -8,6 +8,7 @@ use session::orders::{Deposit, Withdrawal};
 
 const MOST: u64 = 1_000_000_000_000_000;
 
+// A deposit and a withdrawal in few words: each call takes a type of its own.
 fn paid_in(
     book: &mut Book<Standard>,
     slip: &TradingSlip,

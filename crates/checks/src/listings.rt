@@ -1,5 +1,5 @@
 // Listings and the margin rates that they ask for.
-ghost use Rattle.std.specs.Prelude.{◌≡◌, Ok};
+ghost use Rattle.std.specs.Prelude.{◌≡◌};
 
 use book::book::Book;
 use book::slips::TradingSlip;
@@ -32,10 +32,10 @@ const CALL: OptionListing = OptionListing {
     price: 30_000,
 };
 
-fn quote(price: u32, rate: u64) -> Result<Quote, Refusal>
-    ensures { result ≡ Ok (record { price = price; rate = rate }) }
+fn quote(price: u32, rate: u64) -> Quote
+    ensures { result ≡ record { price = price; rate = rate } }
 {
-    Ok(Quote { price, rate })
+    Quote { price, rate }
 }
 
 #[test]
@@ -139,9 +139,9 @@ fn futures_at_their_limits(rt: HostRuntime) {
     ] {
         assert_eq!(rt; book.list_future(&slip, listing), answer);
     }
-    assert_eq!(rt; book.contract(3), quote(99_999_999, 99_999_999_000));
-    assert_eq!(rt; book.contract(2), quote(1, 1));
-    assert_eq!(rt; book.contract(0), quote(2_000_000, 1_000_000));
+    assert_eq!(rt; book.contract(3), Ok(quote(99_999_999, 99_999_999_000)));
+    assert_eq!(rt; book.contract(2), Ok(quote(1, 1)));
+    assert_eq!(rt; book.contract(0), Ok(quote(2_000_000, 1_000_000)));
 }
 
 // A book with future 0.
@@ -253,7 +253,7 @@ fn options_at_their_limits(rt: HostRuntime) -> Result<(), Fail> {
     ] {
         assert_eq!(rt; book.list_option(&slip, listing), answer);
     }
-    assert_eq!(rt; book.contract(4), quote(30_000, 900_000));
+    assert_eq!(rt; book.contract(4), Ok(quote(30_000, 900_000)));
     assert_eq!(rt; book.contract(5), Err(Refusal::NoSuch(5)));
     assert_eq!(rt; book.draw_lots(19), Ok(Holding { long: 0, short: 0 }));
     assert_eq!(rt; book.draw_lots(5), Err(Refusal::NoSuch(5)));
@@ -270,17 +270,17 @@ fn rates_under_every_rule(rt: HostRuntime) -> Result<(), Fail> {
     };
     let (mut standard, slip) = with_future(Standard)?;
     assert_eq!(rt; standard.list_option(&slip, put), Ok(()));
-    assert_eq!(rt; standard.contract(5), quote(105_000, 1_525_000));
+    assert_eq!(rt; standard.contract(5), Ok(quote(105_000, 1_525_000)));
     let flat = Flat::new(70).map_err(|_| Fail::new("no rule"))?;
     let (mut flat, slip) = with_future(flat)?;
     assert_eq!(rt; flat.list_option(&slip, put), Ok(()));
-    assert_eq!(rt; flat.contract(0), quote(2_000_000, 70));
-    assert_eq!(rt; flat.contract(5), quote(105_000, 525_070));
+    assert_eq!(rt; flat.contract(0), Ok(quote(2_000_000, 70)));
+    assert_eq!(rt; flat.contract(5), Ok(quote(105_000, 525_070)));
     let add_on = AddOn::new(2_500, Standard).map_err(|_| Fail::new("no rule"))?;
     let (mut add_on, slip) = with_future(add_on)?;
     assert_eq!(rt; add_on.list_option(&slip, CALL), Ok(()));
-    assert_eq!(rt; add_on.contract(0), quote(2_000_000, 1_250_000));
-    assert_eq!(rt; add_on.contract(4), quote(30_000, 1_125_000));
+    assert_eq!(rt; add_on.contract(0), Ok(quote(2_000_000, 1_250_000)));
+    assert_eq!(rt; add_on.contract(4), Ok(quote(30_000, 1_125_000)));
     Ok(())
 }
 

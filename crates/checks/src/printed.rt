@@ -4,8 +4,10 @@ use ledger::questions::{Position, Quote};
 use ledger::records::Stage;
 use margin::flat::Flat;
 use refusals::{Layer, Refusal};
+use script::reading::Fault;
 use std::fmt::Display;
 use std::test::Fail;
+use words::unreadable::Unreadable;
 
 fn text<V: Display + Drop>(rt: &HostRuntime, value: V) -> Result<String, Fail> {
     Ok(value.to_string(rt.alloc())?)
@@ -29,6 +31,14 @@ fn texts(rt: HostRuntime) -> Result<(), Fail> {
     assert_eq!(rt; text(&rt, position)?.as_str(), "long 3 short 0 free 2");
     assert_eq!(rt; text(&rt, quote)?.as_str(), "price 5 rate 70");
     assert_eq!(rt; text(&rt, Stage::Cut)?.as_str(), "cut");
+    let fault = Fault {
+        line: 2,
+        why: Unreadable::ExtraWord,
+    };
+    assert_eq!(rt;
+        text(&rt, fault)?.as_str(),
+        "line 2: unreadable: a word too many"
+    );
     Ok(())
 }
 

@@ -27,10 +27,12 @@ moved_most units from to w =
     let far = apart (to * units) (from * units) 99999999000 (lot_most to units w.other_most w.units_most) (lot_most from units w.price_most w.units_most) in
     rw (moved_is units from to) (omega (arith, far))
 
+-- the size of a number below 0
 pub abs_neg : (n : ℕ) → unsigned_abs (neg_ℤ (pos n)) ≡ n
 abs_neg zero = refl
 abs_neg (suc n) = refl
 
+-- options keep the law of kinds
 pub option_lawful : Lawful option_sums
 option_lawful = record {
   settles = λ m p c d s. refl;
@@ -40,6 +42,7 @@ option_lawful = record {
   margin_most = λ rate h. omega (arith, add-mul h.long h.short rate);
 }
 
+-- and so do futures
 pub future_lawful : Lawful future_sums
 future_lawful = record {
   settles = λ m p c d s. (let pc = moved_is m p c in let cs = moved_is m c s in let pd = moved_is m p d in let ds = moved_is m d s in omega (arith, ints, pc, cs, pd, ds));

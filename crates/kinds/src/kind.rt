@@ -1,5 +1,5 @@
 // A kind of contract by one meaning and one law.
-ghost use Rattle.std.specs.Prelude.{◌≡◌};
+ghost use Rattle.std.specs.Prelude.{◌≡◌, ◌^◌, ◌≤◌};
 ghost use Rattle.kinds.specs.Kinds.{Meaning, Lawful, Within};
 ghost use Rattle.margin.specs.declared.rule.Right.{Right};
 
@@ -32,7 +32,8 @@ pub trait ContractKind {
 
     // the margin of a whole holding at a margin rate a lot
     fn margin(rate: u64, holding: Holding) -> u128
-        ensures { result ≡ meaning.sums.margin rate holding };
+        ensures margin { result ≡ meaning.sums.margin rate holding }
+        ensures bound { result ≤ 2 ^ 97 };
 
     ghost lawful: { Lawful meaning.sums };
 }

@@ -12,10 +12,9 @@ use std::marker::PhantomData;
 
 // An option that gives the right R.
 #[derive(Clone, Copy)]
-pub struct OptionContract<R> {
-    pub right: PhantomData<R>,
-}
+pub struct OptionContract<R>(PhantomData<R>);
 
+// The two kinds of options.
 pub type CallOption = OptionContract<CallRight>;
 
 pub type PutOption = OptionContract<PutRight>;

@@ -5,6 +5,7 @@ ghost use Rattle.margin.specs.declared.rule.Right.TheVariants.{Call, Put};
 
 use margin::rule::Right;
 
+// What an option's type says of its right.
 pub trait RightKind {
     ghost given: { Right };
 
@@ -12,9 +13,11 @@ pub trait RightKind {
         ensures { result ≡ given };
 }
 
+// To buy the future at the strike.
 #[derive(Clone, Copy)]
 pub struct CallRight;
 
+// To sell it.
 #[derive(Clone, Copy)]
 pub struct PutRight;
 

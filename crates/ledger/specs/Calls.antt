@@ -17,6 +17,7 @@ abbrev pub unless : Option Refusal → Reply → Ledger → Outcome
 unless (Some r) reply t = refused r
 unless None reply t = done reply t
 
+-- what the caller is answered
 abbrev pub answer : Outcome → Result Reply Refusal
 answer (refused r) = Err r
 answer (done reply t) = Ok reply

@@ -33,6 +33,7 @@ pub record FutureSound (x : Contract FutureTerms) : Type 0 where
   pub tick_most : x.terms.tick ≤ 100000
   pub rate_most : x.rate ≤ 10 ^ 12
 
+-- where a future is listed
 abbrev pub FutureKept : Option (Contract FutureTerms) → Type 0
 FutureKept None = Unit {0}
 FutureKept (Some x) = FutureSound x
@@ -52,10 +53,12 @@ pub record OptionSound (s : Ledger) (x : Contract OptionTerms) : Type 0 where
   pub rate_most : x.rate ≤ 10 ^ 12
   pub covers : Covers (future_under s (Some x)) x
 
+-- where an option is listed
 abbrev pub OptionKept : Ledger → Option (Contract OptionTerms) → Type 0
 OptionKept s None = Unit {0}
 OptionKept s (Some x) = OptionSound s x
 
+-- whatever is listed at the twenty numbers is sound
 pub record ContractsKept (s : Ledger) : Type 0 where
   pub futures : (k : ℕ) → k < 20 → FutureKept (future_of s k)
   pub options : (k : ℕ) → k < 20 → OptionKept s (option_of s k)
@@ -68,15 +71,17 @@ pub record CashKept (s : Ledger) : Type 0 where
 abbrev pub Even : Ledger → ℕ → Type 0
 Even s k = sum_to 32 (λ a. long_of s a k) + draw_long s k ≡ sum_to 32 (λ a. short_of s a k) + draw_short s k
 
+-- long lots are as many as short lots in each contract
 pub record LotsKept (s : Ledger) : Type 0 where
   pub balanced : (k : ℕ) → k < 20 → Even s k
 
+-- what every book keeps
 pub record Sound (s : Ledger) : Type 0 where
   pub shape : ShapeKept s
   pub contracts : ContractsKept s
   pub cash : CashKept s
   pub lots : LotsKept s
 
--- the same as a proposition
+-- what every book keeps, as a proposition
 abbrev pub Kept : Ledger → Type 0
 Kept s = ∥ Sound s ∥₁

@@ -10,6 +10,7 @@ use Rattle.ledger.specs.declared.records.OpenDraw.{OpenDraw}
 use Rattle.ledger.specs.declared.records.Stage.{Stage}
 use Rattle.ledger.specs.declared.records.Stage.TheVariants.{Trading}
 
+-- the book: its number, its day and stage, its accounts, its contracts, the day's requests and the open draw
 pub record Ledger : Type 0 where
   pub number : ℕ
   pub day : ℕ
@@ -25,6 +26,7 @@ pub record Ledger : Type 0 where
 abbrev pub no_holding : Holding
 no_holding = record { long = 0; short = 0 }
 
+-- what a look-up of an account that is not there answers
 abbrev pub no_account : Account
 no_account = record { cash = pos 0; holdings = record { rows = [] } }
 
@@ -36,11 +38,17 @@ cash_of s a = (get_or s.accounts a no_account).cash
 abbrev pub holding_of : Ledger → ℕ → ℕ → Holding
 holding_of s a k = slice_index_or (get_or s.accounts a no_account).holdings.rows k no_holding
 
+-- its long lots
 abbrev pub long_of : Ledger → ℕ → ℕ → ℕ
 long_of s a k = (holding_of s a k).long
 
+-- its short lots
 abbrev pub short_of : Ledger → ℕ → ℕ → ℕ
 short_of s a k = (holding_of s a k).short
+
+-- what is listed at a number in a table whose first row has the number `first`
+abbrev pub row_of : {T : Type 0} → List (Option (Contract T)) → ℕ → ℕ → Option (Contract T)
+row_of rows first k = cond (nat_lt k first) None (slice_index_or rows (k - first) None)
 
 -- the future listed at a number, 0 to 3
 abbrev pub future_of : Ledger → ℕ → Option (Contract FutureTerms)
@@ -60,16 +68,20 @@ abbrev pub draw_holding : Option OpenDraw → ℕ → Holding
 draw_holding None k = no_holding
 draw_holding (Some d) k = slice_index_or d.holdings.rows k no_holding
 
+-- an open draw's cash; without one, 0
 abbrev pub cash_drawn : Option OpenDraw → ℤ
 cash_drawn None = pos 0
 cash_drawn (Some d) = d.cash
 
+-- the open draw's long lots in a contract
 abbrev pub draw_long : Ledger → ℕ → ℕ
 draw_long s k = (draw_holding s.draw k).long
 
+-- its short lots
 abbrev pub draw_short : Ledger → ℕ → ℕ
 draw_short s k = (draw_holding s.draw k).short
 
+-- the book's open draw's cash
 abbrev pub draw_cash : Ledger → ℤ
 draw_cash s = cash_drawn s.draw
 
@@ -77,9 +89,11 @@ draw_cash s = cash_drawn s.draw
 abbrev pub with_accounts : Ledger → List Account → Ledger
 with_accounts s xs = record { number = s.number; day = s.day; stage = s.stage; accounts = xs; futures = s.futures; options = s.options; requests = s.requests; draw = s.draw }
 
+-- other futures
 abbrev pub with_futures : Ledger → List (Option (Contract FutureTerms)) → Ledger
 with_futures s xs = record { number = s.number; day = s.day; stage = s.stage; accounts = s.accounts; futures = xs; options = s.options; requests = s.requests; draw = s.draw }
 
+-- other options
 abbrev pub with_options : Ledger → List (Option (Contract OptionTerms)) → Ledger
 with_options s xs = record { number = s.number; day = s.day; stage = s.stage; accounts = s.accounts; futures = s.futures; options = xs; requests = s.requests; draw = s.draw }
 
@@ -91,6 +105,7 @@ with_cash s a x = with_accounts s (slice_set s.accounts a (record { cash = x; ho
 abbrev pub with_future : Ledger → ℕ → Contract FutureTerms → Ledger
 with_future s k x = with_futures s (slice_set s.futures k (Some x))
 
+-- the same of an option
 abbrev pub with_option : Ledger → ℕ → Contract OptionTerms → Ledger
 with_option s k x = with_options s (slice_set s.options (k - 4) (Some x))
 

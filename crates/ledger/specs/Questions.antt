@@ -10,15 +10,19 @@ use Rattle.kinds.specs.declared.terms.Holding.{Holding}
 use Rattle.ledger.specs.declared.questions.Position.{Position}
 use Rattle.ledger.specs.declared.questions.Quote.{Quote}
 
+-- its cash
 abbrev pub cash_answer : Ledger → ℕ → Result ℤ Refusal
 cash_answer s a = of_account a (cash_of s a)
 
+-- its margin
 abbrev pub margin_answer : Ledger → ℕ → Result ℕ Refusal
 margin_answer s a = of_account a (margin_of s a)
 
+-- its frozen funds
 abbrev pub frozen_answer : Ledger → ℕ → Result ℕ Refusal
 frozen_answer s a = of_account a (frozen_of s a)
 
+-- its available funds
 abbrev pub available_answer : Ledger → ℕ → Result ℤ Refusal
 available_answer s a = of_account a (available_of s a)
 
@@ -27,6 +31,7 @@ abbrev pub quoted : {T : Type 0} → Option (Contract T) → Option Quote → Op
 quoted None else = else
 quoted (Some x) else = Some (record { price = x.carried; rate = x.rate })
 
+-- of a future, else of an option
 abbrev pub quote_of : Ledger → ℕ → Option Quote
 quote_of s k = quoted (future_of s k) (quoted (option_of s k) None)
 
@@ -35,6 +40,7 @@ abbrev pub of_contract : {A B : Type 0} → ℕ → Option A → (A → B) → R
 of_contract k None f = Err (NoSuch k)
 of_contract k (Some q) f = Ok (f q)
 
+-- about what is listed at a number
 abbrev pub contract_answer : Ledger → ℕ → Result Quote Refusal
 contract_answer s k = of_contract k (quote_of s k) (λ q. q)
 

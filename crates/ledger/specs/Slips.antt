@@ -7,6 +7,7 @@ use Rattle.ledger.specs.declared.records.Slip.{Slip}
 use Rattle.ledger.specs.declared.records.Stage.{Stage}
 use Rattle.ledger.specs.declared.records.Stage.TheVariants.{Trading, Cut, Draw}
 
+-- a stage is itself and no other
 abbrev pub same_stage : Stage → Stage → Bool
 same_stage Trading Trading = true
 same_stage Trading Cut = false

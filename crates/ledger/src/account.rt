@@ -23,6 +23,14 @@ impl Model for AccountNumber {
 }
 
 impl AccountNumber {
+    // The account at a place of the table.
+    pub fn at(place: usize) -> AccountNumber
+        requires { place < 32 }
+        ensures { result ≡ place }
+    {
+        AccountNumber { place }
+    }
+
     // Its place in the table of accounts.
     pub fn place(self) -> usize
         ensures number { result ≡ self }

@@ -3,7 +3,7 @@ ghost use Rattle.std.specs.Prelude.{◌≡◌, ℕ, ◌*◌, ◌^◌, ◌<◌, �
 ghost use Rattle.ledger.specs.Ledger.{cash_of};
 ghost use Rattle.ledger.specs.Read.{read};
 ghost use Rattle.ledger.specs.View.{view};
-ghost use Rattle.ledger.specs.Funds.{contract_margin, margin_of, instructs, lots_frozen_by, funds_frozen_by, frozen_lots_of, free_of, frozen_of, available_of, InRange};
+ghost use Rattle.ledger.specs.Funds.{contract_margin, margin_of, instructs, lots_frozen_by, funds_frozen_by, of_place, frozen_lots_of, free_of, frozen_of, available_of, InRange};
 
 use crate::account::AccountNumber;
 use crate::listed::rate;
@@ -24,15 +24,24 @@ impl Request {
     }
 }
 
-// The lots that a place of the request table freezes in an account's holding of an option.
-pub fn lots_frozen_by(request: &Option<Request>, account: usize, option: u64) -> u32
+// The lots that a request freezes in an account's holding of an option.
+pub fn lots_frozen_by(request: &Request, account: usize, option: u64) -> u32
     ensures { result ≡ lots_frozen_by account option request.now }
 {
-    match request {
-        Some(request) if request.instructs(account) && u64::from(request.option) == option => {
-            request.lots
-        }
-        _ => 0,
+    if request.instructs(account) && u64::from(request.option) == option {
+        request.lots
+    } else {
+        0
+    }
+}
+
+// The same of a place of the request table.
+fn lots_frozen_in(place: &Option<Request>, account: usize, option: u64) -> u32
+    ensures { result ≡ of_place (lots_frozen_by account option) place.now }
+{
+    match place {
+        Some(request) => lots_frozen_by(request, account, option),
+        None => 0,
     }
 }
 
@@ -44,6 +53,7 @@ impl Record {
     {
         match contract {
             0..4 => Future::margin(rate(self.future_at(contract)), holding),
+            // A put bears the same as a call.
             _ => CallOption::margin(rate(self.option_at(contract)), holding),
         }
     }
@@ -53,6 +63,7 @@ impl Record {
         ensures margin { result ≡ margin_of (read self.now) account }
         ensures bound { result ≤ 20 * 2 ^ 97 }
     {
+        // A sum with its bound, as that of the frozen funds.
         let holdings = &self.accounts[account.place()].holdings.rows;
         let mut total = 0;
         for (contract, holding) in holdings.iter().enumerate() {
@@ -68,21 +79,31 @@ impl Record {
         self.requests
             .places
             .iter()
-            .map(|request| u64::from(lots_frozen_by(request, account, option)))
+            .map(|place| u64::from(lots_frozen_in(place, account, option)))
             .sum()
     }
 
-    // The funds that a place of the request table freezes in an account.
-    pub fn funds_frozen_by(&self, request: &Option<Request>, account: usize) -> u128
+    // The funds that a request freezes in an account.
+    pub fn funds_frozen_by(&self, request: &Request, account: usize) -> u128
         ensures frozen { result ≡ funds_frozen_by (read self.now) account request.now }
         ensures bound { result ≤ 2 ^ 97 }
     {
-        match request {
-            Some(request) if request.instructs(account) && request.wish == Wish::Exercise => {
-                let future = self.future_under(self.option_at(u64::from(request.option)));
-                at_rate(u64::from(request.lots), rate(future))
-            }
-            _ => 0,
+        if request.instructs(account) && request.wish == Wish::Exercise {
+            let future = self.future_under(self.option_at(u64::from(request.option)));
+            at_rate(u64::from(request.lots), rate(future))
+        } else {
+            0
+        }
+    }
+
+    // The same of a place of the request table.
+    fn funds_frozen_in(&self, place: &Option<Request>, account: usize) -> u128
+        ensures frozen { result ≡ of_place (funds_frozen_by (read self.now) account) place.now }
+        ensures bound { result ≤ 2 ^ 97 }
+    {
+        match place {
+            Some(request) => self.funds_frozen_by(request, account),
+            None => 0,
         }
     }
 
@@ -91,11 +112,19 @@ impl Record {
         ensures frozen { result ≡ frozen_of (read self.now) account }
         ensures bound { result ≤ 256 * 2 ^ 97 }
     {
+        // A chain's `sum` is proved to fit, but not to stay below the bound that the available funds need.
         let mut total = 0;
-        for request in &self.requests.places {
-            total += self.funds_frozen_by(request, account);
+        for place in &self.requests.places {
+            total += self.funds_frozen_in(place, account);
         }
         total
+    }
+
+    // An account's cash.
+    pub fn cash(&self, account: AccountNumber) -> i128
+        ensures { result ≡ cash_of (read self.now) account }
+    {
+        self.accounts[account.place()].cash
     }
 
     // An account's long lots in a contract that no live instruction has taken.
@@ -109,17 +138,17 @@ impl Record {
     }
 }
 
-// What is read off a book by an account's number.
+// What a book's invariant bounds.
 impl State {
-    // An account's cash.
+    // An account's cash, within its range.
     pub fn cash(&self, account: AccountNumber) -> i128
         ensures cash { result ≡ cash_of (view self.now) account }
         ensures range { InRange result }
     {
-        self.held.accounts[account.place()].cash
+        self.held.cash(account)
     }
 
-    // The funds that an account's live instruction exercises freeze.
+    // An account's frozen funds, by its number.
     pub fn frozen(&self, account: AccountNumber) -> u128
         ensures frozen { result ≡ frozen_of (view self.now) account }
         ensures bound { result ≤ 256 * 2 ^ 97 }

@@ -1,6 +1,6 @@
 // What is listed at a number.
 ghost use Rattle.std.specs.Prelude.{◌≡◌};
-ghost use Rattle.ledger.specs.Ledger.{future_of, option_of, future_under};
+ghost use Rattle.ledger.specs.Ledger.{row_of, future_of, option_of, future_under};
 ghost use Rattle.ledger.specs.Read.{read};
 ghost use Rattle.ledger.specs.Funds.{rate_of};
 ghost use Rattle.ledger.specs.Kept.{future_lot};
@@ -9,25 +9,27 @@ use crate::records::{Contract, Record};
 use kinds::terms::{FutureTerms, OptionTerms};
 use margin::rule::FutureLot;
 
+// What is listed at a number in a table whose first row has the number `first`.
+fn row<T: Copy>(rows: &[Option<Contract<T>>], first: u64, number: u64) -> Option<Contract<T>>
+    ensures { result ≡ row_of rows.now first number }
+{
+    let place = number.checked_sub(first)?;
+    *rows.get(place as usize)?
+}
+
 impl Record {
     // The future listed at a number, if any.
     pub fn future_at(&self, number: u64) -> Option<Contract<FutureTerms>>
         ensures { result ≡ future_of (read self.now) number }
     {
-        match number {
-            0..4 => self.futures[number as usize],
-            _ => None,
-        }
+        row(&self.futures, 0, number)
     }
 
     // The option listed at a number, if any.
     pub fn option_at(&self, number: u64) -> Option<Contract<OptionTerms>>
         ensures { result ≡ option_of (read self.now) number }
     {
-        match number {
-            4..20 => self.options.rows[number as usize - 4],
-            _ => None,
-        }
+        row(&self.options.rows, 4, number)
     }
 
     // The future that an option is on.

@@ -46,14 +46,26 @@ impl fmt::Display for Quote {
     }
 }
 
-impl<T: Drop> Contract<T> {
-    // Its quote, whatever its kind.
-    fn quote(self) -> Quote
-        ensures { result ≡ record { price = self.carried; rate = self.rate } }
-    {
+// A contract's quote, whatever its kind.
+impl<T: Drop> From<Contract<T>> for Quote {
+    ghost from_gives = { λ contract quote. quote ≡ record { price = contract.carried; rate = contract.rate } };
+
+    fn from(contract: Contract<T>) -> Quote {
         Quote {
-            price: self.carried,
-            rate: self.rate,
+            price: contract.carried,
+            rate: contract.rate,
+        }
+    }
+}
+
+// A position's lots.
+impl From<Position> for Holding {
+    ghost from_gives = { λ position holding. holding ≡ record { long = position.long; short = position.short } };
+
+    fn from(position: Position) -> Holding {
+        Holding {
+            long: position.long,
+            short: position.short,
         }
     }
 }
@@ -64,10 +76,11 @@ impl Record {
         ensures { result ≡ quote_of (read self.now) number }
     {
         self.future_at(number)
-            .map(|future| future.quote())
-            .or_else(|| self.option_at(number).map(|option| option.quote()))
+            .map(Quote::from)
+            .or_else(|| self.option_at(number).map(Quote::from))
     }
 
+    // The same, or the refusal of a number at which nothing is listed.
     pub fn contract(&self, number: u64) -> Result<Quote, Refusal>
         ensures { result ≡ contract_answer (read self.now) number }
     {
@@ -92,19 +105,16 @@ impl Record {
         ensures { result ≡ draw_lots_answer (read self.now) contract }
     {
         self.contract(contract)?;
-        Ok(match &self.draw {
-            Some(draw) => draw.holdings.rows[contract as usize],
-            None => NO_LOTS,
-        })
+        Ok(
+            self.draw
+                .map_or(NO_LOTS, |draw| draw.holdings.rows[contract as usize]),
+        )
     }
 
     // The open draw's cash.
     pub fn draw_cash(&self) -> i128
         ensures { result ≡ draw_cash (read self.now) }
     {
-        match &self.draw {
-            Some(draw) => draw.cash,
-            None => 0,
-        }
+        self.draw.map_or(0, |draw| draw.cash)
     }
 }

@@ -1,5 +1,7 @@
-// The plain records inside a book. A call's fields are 64 bits wide, so that any number can be brought and named in a refusal;
-// the records are as narrow as the limits allow. Money is in fen.
+// The records inside a book. A call's fields are 64 bits wide, so that any number can be brought and named in a refusal;
+// the records are as narrow as the limits allow. Money is in fen. A number becomes a place by `as`: Rust has no `From` there,
+// and a cast that loses bits is refused. A contract's number says its kind, as members write it. The tables are of fixed size,
+// on no heap; each is a struct of its own, as a generic one can't hold an array of its parameter.
 ghost use Rattle.std.specs.Prelude.{◌≡◌, ◌<◌, Some, length, slice_set};
 ghost use Rattle.ledger.specs.Words.{stage_word};
 
@@ -22,6 +24,7 @@ impl Holdings {
     }
 }
 
+// An account's cash and its holdings.
 #[derive(Clone, Copy)]
 pub struct Account {
     pub cash: i128,
@@ -52,6 +55,7 @@ impl OptionTable {
     }
 }
 
+// What a request asks for.
 #[derive(Clone, Copy, PartialEq, Eq)]
 pub enum Wish {
     Exercise,
@@ -95,7 +99,7 @@ impl fmt::Display for Stage {
     }
 }
 
-// The day's request table.
+// The day's request table. That it has its places stands in its type, as every array of this size does, so that no reader has to ask.
 #[derive(Clone, Copy)]
 pub struct RequestTable {
     pub places: [Option<Request>; 256],
@@ -110,7 +114,8 @@ pub struct Slip {
     pub stage: Stage,
 }
 
-// What buyers have given up and sellers do not have yet, while a draw is open: lots and cash, as an account has them.
+// What buyers have given up and sellers do not have yet, while a draw is open: lots and cash, as an account has them. It is no account,
+// so it has a type of its own.
 #[derive(Clone, Copy)]
 pub struct OpenDraw {
     pub cash: i128,

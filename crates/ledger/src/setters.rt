@@ -13,7 +13,7 @@ use kinds::terms::{FutureTerms, OptionTerms};
 
 // In a record, whatever is set.
 impl Record {
-    // Changes one account's cash.
+    // Changes one account's cash; the clause on the account says to provers what its type does.
     pub fn set_cash(&mut self, account: AccountNumber, cash: i128)
         ensures sets { read self.new ≡ with_cash (read self.old) account cash }
         ensures there { account < 32 }

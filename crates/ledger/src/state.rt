@@ -5,7 +5,7 @@ ghost use Rattle.ledger.specs.Read.{read};
 use crate::records::Record;
 
 // Whatever changes it keeps the invariant of books, which stands in its type.
-#[derive(Drop)]
+#[derive(Clone, Copy)]
 pub struct State {
     pub held: Record,
     pub ghost kept: { Kept (read held) },

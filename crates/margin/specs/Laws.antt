@@ -21,6 +21,7 @@ half_most f h =
 option_most : (f : FutureLot) (o : OptionLot) → FutureWithin f → OptionWithin o → o.price * f.units ≤ 99999999000
 option_most f o h k = lot_most o.price f.units k.price_most h.units_most
 
+-- the standard rule
 pub standard_lawful : Lawful standard
 standard_lawful = record {
   future_most = λ f h. omega (arith, half_most f h);
@@ -28,6 +29,7 @@ standard_lawful = record {
   option_most = λ f o h k. omega (arith, half_most f h, option_most f o h k);
 }
 
+-- the flat rule, at a sum within its limit
 pub flat_lawful : (sum : ℕ) → sum ≤ 10 ^ 11 → Lawful (flat sum)
 flat_lawful sum most = record {
   future_most = λ f h. omega arith;
@@ -39,6 +41,7 @@ flat_lawful sum most = record {
 raised_covers : (addition sum cost : ℕ) → cost ≤ sum → cost ≤ 10 ^ 12 → cost ≤ raised addition sum
 raised_covers addition sum cost h k = omega (arith, mul-add sum 10000 addition)
 
+-- an add-on, whatever its addition, over a rule that keeps the law
 pub added_lawful : (addition : ℕ) (below : Rule) → Lawful below → Lawful (added addition below)
 added_lawful addition below lawful = record {
   future_most = λ f h. omega arith;

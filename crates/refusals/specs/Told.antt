@@ -5,6 +5,7 @@ use Rattle.refusals.specs.declared.Layer.TheVariants.{Day, Book, Holding, Funds}
 use Rattle.refusals.specs.declared.Refusal.{Refusal}
 use Rattle.refusals.specs.declared.Refusal.TheVariants.{WrongSlip, NoSuch, OutOfLimits, Occupied, WrongDay, BeyondHolding, ShortOfFunds, BeyondRange, OutOfTurn, NotLive}
 
+-- what a refusal is told by
 pub record Telling : Type 0 where
   pub number : ℕ
   pub layer : Layer

@@ -21,19 +21,19 @@ call_text (Ok Done) = codes "ok"
 call_text (Err refusal) = refusal_text refusal
 
 -- a question's value after the word `is`, or its refusal
-abbrev pub told : {V : Type 0} → ℕ → (V → List ℕ) → Result V Refusal → List ℕ
-told line text (Ok value) = line_of line (codes "is " ++ text value)
-told line text (Err refusal) = line_of line (refusal_text refusal)
+abbrev pub answer_line : {V : Type 0} → ℕ → (V → List ℕ) → Result V Refusal → List ℕ
+answer_line line text (Ok value) = line_of line (codes "is " ++ text value)
+answer_line line text (Err refusal) = line_of line (refusal_text refusal)
 
 -- each question as the book answers it
 abbrev pub asked : Ledger → ℕ → Question → List ℕ
-asked s line (Cash a) = told line signed_decimal (cash_answer s a)
-asked s line (Margin a) = told line decimal (margin_answer s a)
-asked s line (Frozen a) = told line decimal (frozen_answer s a)
-asked s line (Available a) = told line signed_decimal (available_answer s a)
-asked s line (Holding a k) = told line position_text (holding_answer s a k)
-asked s line (Contract k) = told line quote_text (contract_answer s k)
-asked s line (DrawLots k) = told line holding_text (draw_lots_answer s k)
-asked s line DrawCash = told line signed_decimal (Ok (draw_cash s))
-asked s line Day = told line today_text (Ok (today_of s))
+asked s line (Cash a) = answer_line line signed_decimal (cash_answer s a)
+asked s line (Margin a) = answer_line line decimal (margin_answer s a)
+asked s line (Frozen a) = answer_line line decimal (frozen_answer s a)
+asked s line (Available a) = answer_line line signed_decimal (available_answer s a)
+asked s line (Holding a k) = answer_line line position_text (holding_answer s a k)
+asked s line (Contract k) = answer_line line quote_text (contract_answer s k)
+asked s line (DrawLots k) = answer_line line holding_text (draw_lots_answer s k)
+asked s line DrawCash = answer_line line signed_decimal (Ok (draw_cash s))
+asked s line Day = answer_line line today_text (Ok (today_of s))
 asked s line Statement = statement_lines s line

@@ -1,6 +1,9 @@
 pub mod Answers
 pub mod Commands
+pub mod Counting
 pub mod Lines
+pub mod Opening
 pub mod Statement
+pub mod Tally
 pub mod Today
 pub mod Written

@@ -4,6 +4,8 @@ use Rattle.std.specs.Option.{option_map}
 use Rattle.std.specs.Fmt.{decimal}
 use Rattle.refusals.specs.declared.Refusal.{Refusal}
 use Rattle.refusals.specs.Words.{refusal_text}
+use Rattle.script.specs.Readings.{fault_text}
+use Rattle.script.specs.declared.reading.Fault.{Fault}
 
 -- a line of the script by its number, and what is told of it
 abbrev pub line_of : ℕ → List ℕ → List ℕ
@@ -17,3 +19,7 @@ answered output (Err refusal) = Some (refusal_text refusal)
 -- what was carried out, and what was refused
 abbrev pub tally_of : ℕ → ℕ → List ℕ
 tally_of done refused = decimal done ++ codes " done, " ++ decimal refused ++ codes " refused\n"
+
+-- a line that cannot be read, as it is told
+abbrev pub fault_line : Fault → List ℕ
+fault_line fault = fault_text fault ++ codes "\n"

@@ -11,7 +11,7 @@ use Rattle.ledger.specs.Funds.{margin_of, frozen_of, available_of}
 use Rattle.ledger.specs.Questions.{holding_answer}
 use Rattle.ledger.specs.declared.questions.Position.{Position}
 use Rattle.rogbeku.specs.Lines.{line_of}
-use Rattle.rogbeku.specs.declared.statement.Funds.{Funds}
+use Rattle.rogbeku.specs.declared.statement.AccountFunds.{AccountFunds}
 
 -- the texts for the numbers below a number, in rising order
 unfoldable pub lines_to : ℕ → (ℕ → List ℕ) → List ℕ
@@ -19,16 +19,16 @@ lines_to zero f = []
 lines_to (suc n) f = lines_to n f ++ f n
 
 -- each sum after its word
-abbrev pub funds_text : Funds → List ℕ
+abbrev pub funds_text : AccountFunds → List ℕ
 funds_text f =
     codes "cash " ++ (signed_decimal f.cash ++ (codes " margin " ++ (decimal f.margin ++ (codes " frozen " ++ (decimal f.frozen ++ (codes " available " ++ signed_decimal f.available))))))
 
 -- an account by its number, and its funds
-abbrev pub funds_line : ℕ → Funds → List ℕ
+abbrev pub funds_line : ℕ → AccountFunds → List ℕ
 funds_line a f = codes "  account " ++ (decimal a ++ (codes " " ++ (funds_text f ++ codes "\n")))
 
 -- an account's cash, margin, frozen funds and available funds
-abbrev pub funds_of : Ledger → ℕ → Funds
+abbrev pub funds_of : Ledger → ℕ → AccountFunds
 funds_of s a = record { cash = cash_of s a; margin = margin_of s a; frozen = frozen_of s a; available = available_of s a }
 
 -- the lots of a position, where there are any

@@ -5,8 +5,10 @@ ghost use Rattle.ledger.specs.Calls.{answer, after};
 ghost use Rattle.ledger.specs.View.{view};
 ghost use Rattle.rogbeku.specs.Written.{written};
 ghost use Rattle.rogbeku.specs.Answers.{call_text, asked};
-ghost use Rattle.rogbeku.specs.Commands.{called, printed, left, all_printed};
+ghost use Rattle.rogbeku.specs.Commands.{called, printed, after_command, all_printed};
+ghost use Rattle.rogbeku.specs.Counting.{count_of};
 ghost use Rattle.rogbeku.specs.Lines.{line_of};
+ghost use Rattle.rogbeku.specs.Tally.{after_call, after_question, is_refused, counted, all_counted};
 
 use crate::statement::statement;
 use crate::teller::Teller;
@@ -42,6 +44,7 @@ fn written<R: MarginRule>(book: &Book<R>, slip: Option<Shown>, order: Order) -> 
     }
 }
 
+// The book, where its answers go, and the memory that a run takes.
 #[derive(Drop)]
 pub struct Desk<R: MarginRule, W> {
     pub book: Book<R>,
@@ -53,7 +56,8 @@ impl<R: MarginRule, W: Write> Desk<R, W> {
     // Carries out one command.
     pub fn carry_out(&mut self, line: &Line) -> io::Result<()>
         ensures prints { OnOk result (Appends (W.contents self.old.teller.out) (W.contents self.new.teller.out) (printed (R.MarginRule.meaning self.old.book.rule) (view self.old.book.state) line.now.number line.now.command)) }
-        ensures leaves { OnOk result (view self.new.book.state ≡ left (R.MarginRule.meaning self.old.book.rule) (view self.old.book.state) line.now.command) }
+        ensures leaves { OnOk result (view self.new.book.state ≡ after_command (R.MarginRule.meaning self.old.book.rule) (view self.old.book.state) line.now.command) }
+        ensures counts { OnOk result (count_of self.new.teller ≡ counted (R.MarginRule.meaning self.old.book.rule) (view self.old.book.state) line.now.command (count_of self.old.teller)) }
         ensures rule { self.new.book.rule ≡ self.old.book.rule }
     {
         match line.command {
@@ -66,7 +70,8 @@ impl<R: MarginRule, W: Write> Desk<R, W> {
 
     // Carries out commands, one after another.
     pub fn carry_out_all(&mut self, lines: &[Line]) -> io::Result<()>
-        ensures { OnOk result (Appends (W.contents self.old.teller.out) (W.contents self.new.teller.out) (all_printed (R.MarginRule.meaning self.old.book.rule) (view self.old.book.state) lines.now)) }
+        ensures prints { OnOk result (Appends (W.contents self.old.teller.out) (W.contents self.new.teller.out) (all_printed (R.MarginRule.meaning self.old.book.rule) (view self.old.book.state) lines.now)) }
+        ensures counts { OnOk result (count_of self.new.teller ≡ all_counted (R.MarginRule.meaning self.old.book.rule) (view self.old.book.state) lines.now (count_of self.old.teller)) }
     {
         for line in lines {
             self.carry_out(line)?;
@@ -78,6 +83,7 @@ impl<R: MarginRule, W: Write> Desk<R, W> {
     fn call(&mut self, line: u64, slip: Option<Shown>, order: Order) -> io::Result<()>
         ensures prints { OnOk result (Appends (W.contents self.old.teller.out) (W.contents self.new.teller.out) (line_of line (call_text (answer (called (R.MarginRule.meaning self.old.book.rule) (view self.old.book.state) slip order))))) }
         ensures leaves { OnOk result (view self.new.book.state ≡ after (view self.old.book.state) (called (R.MarginRule.meaning self.old.book.rule) (view self.old.book.state) slip order)) }
+        ensures counts { OnOk result (count_of self.new.teller ≡ after_call (called (R.MarginRule.meaning self.old.book.rule) (view self.old.book.state) slip order) (count_of self.old.teller)) }
         ensures rule { self.new.book.rule ≡ self.old.book.rule }
     {
         let call = written(&self.book, slip, order);
@@ -87,8 +93,10 @@ impl<R: MarginRule, W: Write> Desk<R, W> {
         }
     }
 
+    // A question is answered, and changes nothing.
     fn ask(&mut self, line: u64, question: Question) -> io::Result<()>
         ensures prints { OnOk result (Appends (W.contents self.old.teller.out) (W.contents self.new.teller.out) (asked (view self.old.book.state) line question)) }
+        ensures counts { OnOk result (count_of self.new.teller ≡ after_question (is_refused (view self.old.book.state) question) (count_of self.old.teller)) }
         ensures book { self.new.book ≡ self.old.book }
     {
         let book = &self.book;

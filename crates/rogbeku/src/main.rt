@@ -2,15 +2,17 @@
 #![tactic(auto)]
 
 mod desk;
+mod faults;
 mod play;
 mod statement;
 mod teller;
 mod today;
 
 use anyhow::anyhow;
+use faults::tell_faults;
 use play::play;
 use script::error::ReadError;
-use script::reading::{Fault, script};
+use script::reading::script;
 use std::io::{BufReader, BufWriter, Read, Write};
 use std::{env, fs, io};
 
@@ -28,25 +30,18 @@ fn input(rt: &HostRuntime) -> io::Result<Vec<u8>> {
     }
 }
 
-// Names each line that cannot be read. Gives the writer back.
-fn tell_faults<W: Write + Drop>(mut out: W, faults: &[Fault]) -> io::Result<W> {
-    for fault in faults {
-        writeln!(out, "line {}: unreadable: {}", fault.line, fault.why)?;
-    }
-    Ok(out)
-}
-
 fn run(rt: &HostRuntime) -> anyhow::Result<()> {
     let heap = rt.alloc();
     let text = input(rt)?;
-    let out = BufWriter::new(heap, rt.stdout())?;
+    let mut out = BufWriter::new(heap, rt.stdout())?;
     match script(heap, text.as_slice()) {
         Ok(lines) => {
             play(out, heap, lines.as_slice())?.flush()?;
             Ok(())
         }
         Err(ReadError::Text(faults)) => {
-            tell_faults(out, faults.as_slice())?.flush()?;
+            tell_faults(&mut out, faults.as_slice())?;
+            out.flush()?;
             Err(anyhow!("the script cannot be read"))
         }
         Err(ReadError::Memory(error)) => Err(error.into()),

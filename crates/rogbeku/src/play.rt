@@ -1,10 +1,9 @@
 // A whole script: the book is made with its rule, and each command is carried out and answered in turn.
-ghost use Rattle.std.specs.Prelude.{◌≡◌, ℕ, ◌^◌, ◌++◌, IfOk};
+ghost use Rattle.std.specs.Prelude.{◌≡◌, ◌^◌, IfOk};
 ghost use Rattle.std.specs.Io.KnownBytes.{Appends};
 ghost use Rattle.margin.specs.AddOn.{added};
 ghost use Rattle.margin.specs.Flat.{flat as flat_rule};
-ghost use Rattle.rogbeku.specs.Commands.{within, raised_by, meant, opened, Plays};
-ghost use Rattle.rogbeku.specs.Lines.{tally_of};
+ghost use Rattle.rogbeku.specs.Opening.{within, raised_by, meant, opened, Plays};
 
 use crate::desk::Desk;
 use crate::teller::Teller;
@@ -39,7 +38,7 @@ fn add_on<R: MarginRule + Drop>(
 
 // The line that makes a book, and the book's number.
 #[derive(Clone, Copy)]
-struct Opening {
+struct Making {
     line: u64,
     number: u32,
 }
@@ -49,22 +48,22 @@ fn run_book<R: MarginRule + Drop, W: Write + Drop>(
     out: W,
     heap: Global,
     rule: Result<R, Refusal>,
-    opening: Opening,
+    making: Making,
     commands: &[Line],
 ) -> io::Result<W>
-    ensures { IfOk result (λ written. (done refused : ℕ) × Appends (W.contents out) (W.contents written) (opened (meant R.meaning rule) opening.line opening.number commands.now ++ tally_of done refused)) }
+    ensures { IfOk result (λ written. Appends (W.contents out) (W.contents written) (opened (meant R.meaning rule) making.line making.number commands.now)) }
 {
     let mut teller = Teller::new(out);
     match rule {
         Ok(rule) => {
-            let (book, _slip) = Book::new(opening.number, rule);
-            teller.carried_out(opening.line, "made")?;
+            let (book, _slip) = Book::new(making.number, rule);
+            teller.carried_out(making.line, "made")?;
             let mut desk = Desk { book, teller, heap };
             desk.carry_out_all(commands)?;
             desk.teller.end()
         }
         Err(refusal) => {
-            teller.refuse(opening.line, refusal)?;
+            teller.refuse(making.line, refusal)?;
             teller.end()
         }
     }
@@ -80,20 +79,21 @@ pub fn play<W: Write + Drop>(out: W, heap: Global, lines: &[Line]) -> io::Result
     let Command::Book { number, rule } = first.command else {
         return Ok(out);
     };
-    let opening = Opening {
+    let making = Making {
         line: first.number,
         number,
     };
+    // An arm for each type of rule, which a closure could not be generic over.
     match rule {
-        RuleName::Base(BaseRule::Standard) => run_book(out, heap, Ok(Standard), opening, commands),
-        RuleName::Base(BaseRule::Flat(sum)) => run_book(out, heap, flat(sum), opening, commands),
+        RuleName::Base(BaseRule::Standard) => run_book(out, heap, Ok(Standard), making, commands),
+        RuleName::Base(BaseRule::Flat(sum)) => run_book(out, heap, flat(sum), making, commands),
         RuleName::AddOn {
             addition,
             base: BaseRule::Standard,
-        } => run_book(out, heap, add_on(addition, Ok(Standard)), opening, commands),
+        } => run_book(out, heap, add_on(addition, Ok(Standard)), making, commands),
         RuleName::AddOn {
             addition,
             base: BaseRule::Flat(sum),
-        } => { run_book(out, heap, add_on(addition, flat(sum)), opening, commands) }
+        } => { run_book(out, heap, add_on(addition, flat(sum)), making, commands) }
     }
 }

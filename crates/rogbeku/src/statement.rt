@@ -1,4 +1,5 @@
-// The statement: each account that has cash or a lot, with its holdings.
+// The statement: each account that has cash or a lot, with its holdings. The numbers of accounts and contracts are counted, since no list stands
+// behind them. The writer and the book go through these functions one by one: clauses see a struct of borrows by what is lent, not by its fields.
 ghost use Rattle.std.specs.Prelude.{◌≡◌, ◌<◌, OnOk, Some};
 ghost use Rattle.std.specs.Io.KnownBytes.{Appends};
 ghost use Rattle.ledger.specs.Accounts.{of_account};
@@ -14,14 +15,14 @@ use std::{fmt, io};
 
 // An account's cash, margin, frozen funds and available funds.
 #[derive(Clone, Copy)]
-pub struct Funds {
+pub struct AccountFunds {
     cash: i128,
     margin: u128,
     frozen: u128,
     available: i128,
 }
 
-impl fmt::Display for Funds {
+impl fmt::Display for AccountFunds {
     ghost output = { λ funds. Some (funds_text funds) };
 
     fn fmt<W: fmt::Write>(&self, f: &mut fmt::Formatter<W>) -> fmt::Result {
@@ -33,10 +34,11 @@ impl fmt::Display for Funds {
     }
 }
 
-fn funds_of<R: MarginRule>(book: &Book<R>, account: u64) -> Result<Funds, Refusal>
+// An account's funds; refused where there is none.
+fn funds_of<R: MarginRule>(book: &Book<R>, account: u64) -> Result<AccountFunds, Refusal>
     ensures { result ≡ of_account account (funds_of (view book.now.state) account) }
 {
-    Ok(Funds {
+    Ok(AccountFunds {
         cash: book.cash(account)?,
         margin: book.margin(account)?,
         frozen: book.frozen(account)?,
@@ -52,12 +54,10 @@ fn held<R: MarginRule>(book: &Book<R>, account: u64, contract: u64) -> Option<Ho
     if position.long == 0 && position.short == 0 {
         return None;
     }
-    Some(Holding {
-        long: position.long,
-        short: position.short,
-    })
+    Some(Holding::from(position))
 }
 
+// Whether an account has a lot in any contract.
 fn holds_any<R: MarginRule>(book: &Book<R>, account: u64) -> bool
     ensures { result ≡ holds_any_of (view book.now.state) account }
 {
@@ -72,12 +72,14 @@ fn is_idle<R: MarginRule>(book: &Book<R>, account: u64) -> bool
     book.cash(account) == Ok(0) && !holds_any(book, account)
 }
 
-fn tell_funds<W: Write>(out: &mut W, account: u64, funds: Funds) -> io::Result<()>
+// The line of an account.
+fn tell_funds<W: Write>(out: &mut W, account: u64, funds: AccountFunds) -> io::Result<()>
     ensures { OnOk result (Appends (W.contents out.old) (W.contents out.new) (funds_line account funds)) }
 {
     writeln!(out, "  account {account} {funds}")
 }
 
+// The line of a contract, where an account has lots in it.
 fn tell_lots<W: Write>(out: &mut W, contract: u64, lots: Option<Holding>) -> io::Result<()>
     ensures { OnOk result (Appends (W.contents out.old) (W.contents out.new) (lots_line contract lots)) }
 {
@@ -87,6 +89,7 @@ fn tell_lots<W: Write>(out: &mut W, contract: u64, lots: Option<Holding>) -> io:
     }
 }
 
+// The lines of all contracts in which an account has lots.
 fn tell_holdings<R: MarginRule, W: Write>(
     out: &mut W,
     book: &Book<R>,
@@ -100,6 +103,7 @@ fn tell_holdings<R: MarginRule, W: Write>(
     Ok(())
 }
 
+// An account's lines, unless it has nothing.
 fn tell_account<R: MarginRule, W: Write>(
     out: &mut W,
     book: &Book<R>,
@@ -118,6 +122,7 @@ fn tell_account<R: MarginRule, W: Write>(
     tell_holdings(out, book, account)
 }
 
+// All accounts' lines: a loop of its own, as the one over contracts prints by other functions.
 fn tell_accounts<R: MarginRule, W: Write>(out: &mut W, book: &Book<R>) -> io::Result<()>
     ensures { OnOk result (Appends (W.contents out.old) (W.contents out.new) (lines_to 32 (account_lines (view book.now.state)))) }
 {
@@ -127,6 +132,7 @@ fn tell_accounts<R: MarginRule, W: Write>(out: &mut W, book: &Book<R>) -> io::Re
     Ok(())
 }
 
+// The whole statement.
 pub fn statement<R: MarginRule, W: Write>(out: &mut W, line: u64, book: &Book<R>) -> io::Result<()>
     ensures { OnOk result (Appends (W.contents out.old) (W.contents out.new) (statement_lines (view book.now.state) line)) }
 {

@@ -1,8 +1,10 @@
 // Where the answers are printed, and the count of them.
-ghost use Rattle.std.specs.Prelude.{◌≡◌, IfOk, OnOk, IfSome, min, ◌+◌, ◌-◌, ◌^◌};
+ghost use Rattle.std.specs.Prelude.{◌≡◌, cond, IfOk, OnOk, IfSome};
+ghost use Rattle.std.specs.Result.{is_err};
 ghost use Rattle.std.specs.Io.KnownBytes.{Appends};
 ghost use Rattle.refusals.specs.Words.{refusal_text};
 ghost use Rattle.rogbeku.specs.Lines.{line_of, answered, tally_of};
+ghost use Rattle.rogbeku.specs.Tally.{one_more};
 
 use refusals::Refusal;
 use std::fmt::Display;
@@ -31,7 +33,7 @@ impl<W: Write> Teller<W> {
     // Something was carried out, which a word says.
     pub fn carried_out(&mut self, line: u64, word: &str) -> io::Result<()>
         ensures prints { OnOk result (Appends (W.contents self.old.out) (W.contents self.new.out) (line_of line word.now)) }
-        ensures done { self.new.done ≡ min (self.old.done + 1) (2 ^ 64 - 1) }
+        ensures done { self.new.done ≡ one_more self.old.done }
         ensures refused { self.new.refused ≡ self.old.refused }
     {
         self.done = self.done.saturating_add(1);
@@ -42,7 +44,7 @@ impl<W: Write> Teller<W> {
     pub fn refuse(&mut self, line: u64, refusal: Refusal) -> io::Result<()>
         ensures prints { OnOk result (Appends (W.contents self.old.out) (W.contents self.new.out) (line_of line (refusal_text refusal))) }
         ensures done { self.new.done ≡ self.old.done }
-        ensures refused { self.new.refused ≡ min (self.old.refused + 1) (2 ^ 64 - 1) }
+        ensures refused { self.new.refused ≡ one_more self.old.refused }
     {
         self.refused = self.refused.saturating_add(1);
         writeln!(self.out, "{line} {refusal}")
@@ -56,6 +58,7 @@ impl<W: Write> Teller<W> {
     ) -> io::Result<()>
         ensures prints { OnOk result (IfSome (answered V.output answer) (λ text. Appends (W.contents self.old.out) (W.contents self.new.out) (line_of line text))) }
         ensures done { self.new.done ≡ self.old.done }
+        ensures refused { self.new.refused ≡ cond (is_err answer) (one_more self.old.refused) self.old.refused }
     {
         match answer {
             Ok(value) => writeln!(self.out, "{line} is {value}"),

@@ -21,6 +21,7 @@ abbrev pub noted : Act → List Act → Outcome → List Act
 noted x j (refused r) = j
 noted x j (done reply t) = x ∷ j
 
+-- the accepted calls among these, before those noted already
 abbrev pub journal_from : Rule → Ledger → List Act → List Act → List Act
 journal_from rule s j [] = j
 journal_from rule s j (x ∷ acts) = journal_from rule (after s (stepped rule s x)) (noted x j (stepped rule s x)) acts

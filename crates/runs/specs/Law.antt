@@ -51,6 +51,7 @@ past k (listing_option slip l ∷ j) = cond (l.number == k) false (past k j)
 abbrev pub standing : ℕ → List Act → Option OptionListing
 standing k j = cond (past k j) None (option_listing k j)
 
+-- a listed future's units a lot
 abbrev pub units_of : Option FutureListing → ℕ
 units_of None = 0
 units_of (Some l) = l.units

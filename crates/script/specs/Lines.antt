@@ -21,6 +21,10 @@ spaced text = nonempty (slice_split (λ b. b == 32) text)
 abbrev pub words_of : List ℕ → List (List ℕ)
 words_of line = spaced (before 35 line)
 
+-- whether the first of the words is `book`
+abbrev pub book_first_of : List (List ℕ) → Bool
+book_first_of words = bytes_eq (slice_index_or words 0 []) (codes "book")
+
 -- whether the first word of a line is `book`
 abbrev pub opens_book_of : List ℕ → Bool
-opens_book_of line = bytes_eq (slice_index_or (words_of line) 0 []) (codes "book")
+opens_book_of line = book_first_of (words_of line)

@@ -1,8 +1,10 @@
 -- What a line says, and a whole script. Assumes nothing.
-use Rattle.std.specs.Prelude.{◌≡◌, ℕ, ◌+◌, Bool, false, cond, not, List, [], ◌∷◌, ◌++◌, length, Some, None, Option, Ok, Err, Result, vec_items, nat_lt, ◌==◌, if◌then◌else◌}
+use Rattle.std.specs.Prelude.{◌≡◌, ℕ, ◌+◌, Bool, false, cond, not, List, [], ◌∷◌, ◌++◌, length, codes, Some, None, Option, Ok, Err, Result, vec_items, nat_lt, ◌==◌, if◌then◌else◌}
+use Rattle.std.specs.Fmt.{decimal}
 use Rattle.std.specs.List.{list_all}
 use Rattle.words.specs.declared.unreadable.Unreadable.{Unreadable}
 use Rattle.words.specs.declared.unreadable.Unreadable.TheVariants as why
+use Rattle.words.specs.Reasons.{reason_of}
 use Rattle.words.specs.Words.{◌>>=◌}
 use Rattle.script.specs.declared.command.Command.{Command}
 use Rattle.script.specs.declared.error.ReadError.{ReadError}
@@ -16,7 +18,7 @@ use Rattle.script.specs.Commands.{command_of}
 use Rattle.script.specs.Lines.{parts, words_of, opens_book_of}
 use Rattle.script.specs.Places.{well_placed_of, start_after, unless_awaited}
 
--- what a reader answers, and why it answers nothing, each seen by a view, is what reading gives, unless memory ran out
+-- a result, seen by two views, is what reading gives; nothing is said where memory ran out
 abbrev pub Gives : {A B E F : Type 0} → (A → B) → (E → F) → Result A (ReadError E) → Result B F → Type 0
 Gives view views (Ok found) read = read ≡ Ok (view found)
 Gives view views (Err (Text fault)) read = read ≡ Err (views fault)
@@ -36,6 +38,10 @@ is_plain line = list_all (λ b. nat_lt b 128) line
 -- what a line says; only plain text can be read
 abbrev pub says_of : List ℕ → Result (Option Command) Unreadable
 says_of line = if is_plain line then worded (words_of line) else Err why.NotAscii
+
+-- what is told of a line that cannot be read: its number, and why
+abbrev pub fault_text : Fault → List ℕ
+fault_text fault = codes "line " ++ decimal fault.line ++ codes ": unreadable: " ++ reason_of fault.why
 
 -- what has been read so far
 pub record Read : Type 0 where

@@ -16,6 +16,7 @@ pub enum RuleName {
     AddOn { addition: u64, base: BaseRule },
 }
 
+// What a question asks about.
 #[derive(Clone, Copy, PartialEq, Eq, Debug)]
 pub enum Question {
     Cash(u64),
@@ -30,6 +31,7 @@ pub enum Question {
     Statement,
 }
 
+// What one line asks for.
 #[derive(Clone, Copy, PartialEq, Eq, Debug)]
 pub enum Command {
     Book { number: u32, rule: RuleName },

@@ -2,7 +2,7 @@
 ghost use Rattle.std.specs.Prelude.{◌≡◌, true, false, map, IfOk, MatchResult};
 ghost use Rattle.words.specs.Cuts.{before};
 ghost use Rattle.words.specs.Words.{bytes};
-ghost use Rattle.script.specs.Lines.{words_of, opens_book_of};
+ghost use Rattle.script.specs.Lines.{spaced, words_of, book_first_of, opens_book_of};
 ghost use Rattle.script.specs.Readings.{Gives, is_plain, says_of};
 
 use crate::command::Command;
@@ -40,14 +40,21 @@ fn said(line: &[u8]) -> &[u8]
     &line[..end]
 }
 
+// Whether `book` is the first of the words that stand between spaces.
+fn book_first(text: &[u8]) -> bool
+    ensures { result ≡ book_first_of (spaced text.now) }
+{
+    let first = text
+        .split(|byte| *byte == b' ')
+        .find(|word| !word.is_empty());
+    first == Some(b"book".as_slice())
+}
+
 // Whether the first word of a line is `book`, whatever follows it.
 pub fn opens_book(line: &[u8]) -> bool
     ensures { result ≡ opens_book_of line.now }
 {
-    let first = said(line)
-        .split(|byte| *byte == b' ')
-        .find(|word| !word.is_empty());
-    first == Some(b"book".as_slice())
+    book_first(said(line))
 }
 
 // A line as text; only plain text can be read.

@@ -6,7 +6,7 @@ use crate::command::Command;
 use words::unreadable::Unreadable;
 
 // No command yet; the first one made the book; the first one did something else.
-#[derive(Clone, Copy)]
+#[derive(Clone, Copy, PartialEq, Eq, Debug)]
 pub enum Start {
     Awaited,
     Made,

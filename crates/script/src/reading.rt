@@ -1,26 +1,35 @@
 // A whole script, which is read before anything of it is carried out.
-ghost use Rattle.std.specs.Prelude.{◌≡◌, OnOk};
-ghost use Rattle.script.specs.Readings.{told_first_of, read_by, taken, lacks_book_of, told, Gives, script_of};
+ghost use Rattle.std.specs.Prelude.{◌≡◌, Some, OnOk};
+ghost use Rattle.script.specs.Readings.{fault_text, told_first_of, read_by, taken, lacks_book_of, told, Gives, script_of};
 
 use crate::command::Command;
 use crate::error::ReadError;
 use crate::line::{opens_book, read_line};
 use crate::opening::{Start, begun, well_placed};
 use std::alloc::{AllocError, Global};
+use std::fmt;
 use words::unreadable::Unreadable;
 
 // A command and the number of its line; every line counts, from 1.
-#[derive(Clone, Copy)]
+#[derive(Clone, Copy, PartialEq, Eq, Debug)]
 pub struct Line {
     pub number: u64,
     pub command: Command,
 }
 
 // A line that cannot be read.
-#[derive(Clone, Copy)]
+#[derive(Clone, Copy, PartialEq, Eq, Debug)]
 pub struct Fault {
     pub line: u64,
     pub why: Unreadable,
+}
+
+impl fmt::Display for Fault {
+    ghost output = { λ fault. Some (fault_text fault) };
+
+    fn fmt<W: fmt::Write>(&self, f: &mut fmt::Formatter<W>) -> fmt::Result {
+        write!(f, "line {}: unreadable: {}", self.line, self.why)
+    }
 }
 
 // What has been read so far.
@@ -54,9 +63,7 @@ impl Reader {
             }
             Err(ReadError::Text(why)) => {
                 self.faults.push(Fault { line: number, why })?;
-                if opens_book(line)
-                    && let Start::Awaited = self.start
-                {
+                if opens_book(line) && self.start == Start::Awaited {
                     self.start = Start::Made;
                 }
             }

@@ -20,6 +20,7 @@ use Rattle.session.specs.Limits.{outside, bad_price}
 use Rattle.session.specs.declared.orders.FutureListing.{FutureListing}
 use Rattle.session.specs.declared.orders.OptionListing.{OptionListing}
 
+-- a number of a future, four fields within their limits, a price on the tick, and a number that is free
 abbrev pub future_listing_refusal : Ledger → Slip → FutureListing → Option Refusal
 future_listing_refusal s slip l =
     cond (wrong_slip s slip Trading) (Some (WrongSlip slip.number))
@@ -39,9 +40,11 @@ listed_future l = record { price = l.price; units = l.units; ratio = l.ratio }
 abbrev pub future_contract : FutureListing → ℕ → Contract FutureTerms
 future_contract l rate = record { terms = record { units = l.units; tick = l.tick; ratio = l.ratio }; carried = l.price; rate = rate }
 
+-- the number has the future
 abbrev pub future_listing_effect : Ledger → FutureListing → ℕ → Ledger
 future_listing_effect s l rate = with_future s l.number (future_contract l rate)
 
+-- what the listing of a future comes to, at the rate that the rule asks
 unfoldable pub future_listed : Rule → Ledger → Slip → FutureListing → Outcome
 future_listed rule s slip l = unless (future_listing_refusal s slip l) Done (future_listing_effect s l (rule.future_sum (listed_future l)))
 
@@ -58,6 +61,7 @@ option_listing_refusal s slip l =
     (cond (is_some (option_of s l.number)) (Some (Occupied l.number))
     None)))))))
 
+-- what the margin rule is asked with for the option
 abbrev pub listed_option : OptionListing → OptionLot
 listed_option l = record { right = l.right; strike = l.strike; price = l.price }
 
@@ -70,9 +74,11 @@ asked_rate rule (Some f) l = rule.option_sum (future_lot f) (listed_option l)
 abbrev pub option_contract : OptionListing → ℕ → Contract OptionTerms
 option_contract l rate = record { terms = record { future = l.future; right = l.right; style = l.style; strike = l.strike; tick = l.tick; last_day = l.last_day }; carried = l.price; rate = rate }
 
+-- the number has the option
 abbrev pub option_listing_effect : Ledger → OptionListing → ℕ → Ledger
 option_listing_effect s l rate = with_option s l.number (option_contract l rate)
 
+-- what the listing of an option comes to, at the rate that the rule asks
 unfoldable pub option_listed : Rule → Ledger → Slip → OptionListing → Outcome
 option_listed rule s slip l = unless (option_listing_refusal s slip l) Done (option_listing_effect s l (asked_rate rule (future_of s l.future) l))
 

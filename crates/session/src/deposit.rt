@@ -5,29 +5,22 @@ ghost use Rattle.ledger.specs.Calls.{Performs, plainly};
 ghost use Rattle.ledger.specs.View.{view};
 ghost use Rattle.session.specs.Cash.{deposit_refusal, deposited};
 
-use crate::limits::outside;
 use crate::orders::Deposit;
+use crate::payment::check_payment;
 use ledger::account::AccountNumber;
-use ledger::records::{Slip, Stage};
+use ledger::records::Slip;
 use ledger::state::State;
 use refusals::Refusal;
 
 // The most cash that an account may have, in fen.
 pub const MOST_CASH: i128 = 1_000_000_000_000_000_000;
 
-// The most that one deposit or withdrawal may move.
-pub const MOST_AMOUNT: u64 = 1_000_000_000_000_000;
-
 // The account that a deposit goes to, where no row refuses it.
 pub fn check_deposit(state: &State, slip: Slip, order: Deposit) -> Result<AccountNumber, Refusal>
     ensures rows { result_err result ≡ deposit_refusal (view state.now) slip order }
     ensures account { IfOk result (λ account. account ≡ order.account) }
 {
-    state.held.admit(slip, Stage::Trading)?;
-    let account = AccountNumber::try_from(order.account)?;
-    if outside(1, MOST_AMOUNT, order.amount) {
-        return Err(Refusal::OutOfLimits(2));
-    }
+    let account = check_payment(&state.held, slip, order.account, order.amount)?;
     if state.cash(account) + i128::from(order.amount) > MOST_CASH {
         return Err(Refusal::BeyondRange(order.account));
     }

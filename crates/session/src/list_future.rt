@@ -7,7 +7,7 @@ ghost use Rattle.ledger.specs.View.{view};
 ghost use Rattle.margin.specs.Limits.{FutureWithin};
 ghost use Rattle.session.specs.Listings.{future_listing_refusal, future_listed, listed_future, future_contract, FutureListable};
 
-use crate::limits::{bad_price, outside};
+use crate::limits::{check_limits, check_price};
 use crate::orders::FutureListing;
 use kinds::terms::FutureTerms;
 use ledger::records::{Contract, Record, Slip, Stage};
@@ -16,7 +16,7 @@ use margin::rule::{FutureLot, MarginRule};
 use refusals::Refusal;
 
 impl FutureListing {
-    // What the margin rule is asked with.
+    // What the margin rule is asked with. A cast that loses bits is refused where it stands, and `try_from` would need an error that never comes.
     pub fn lot(self) -> FutureLot
         requires { FutureWithin (listed_future self) }
         ensures { result ≡ listed_future self }
@@ -54,18 +54,10 @@ pub fn check_future(held: &Record, slip: Slip, order: FutureListing) -> Result<(
     if order.number >= 4 {
         return Err(Refusal::NoSuch(order.number));
     }
-    if outside(1, 1_000, order.units) {
-        return Err(Refusal::OutOfLimits(2));
-    }
-    if outside(1, 100_000, order.tick) {
-        return Err(Refusal::OutOfLimits(3));
-    }
-    if outside(1, 10_000, order.ratio) {
-        return Err(Refusal::OutOfLimits(4));
-    }
-    if bad_price(order.tick, order.price) {
-        return Err(Refusal::OutOfLimits(5));
-    }
+    check_limits(2, 1, 1_000, order.units)?;
+    check_limits(3, 1, 100_000, order.tick)?;
+    check_limits(4, 1, 10_000, order.ratio)?;
+    check_price(5, order.tick, order.price)?;
     if held.future_at(order.number).is_some() {
         return Err(Refusal::Occupied(order.number));
     }

@@ -9,7 +9,7 @@ ghost use Rattle.ledger.specs.View.{view};
 ghost use Rattle.margin.specs.Limits.{OptionWithin};
 ghost use Rattle.session.specs.Listings.{option_listing_refusal, option_listed, listed_option, option_contract, OptionListable};
 
-use crate::limits::{bad_price, outside};
+use crate::limits::{check_limits, check_price, outside};
 use crate::orders::OptionListing;
 use kinds::terms::{FutureTerms, OptionTerms};
 use ledger::records::{Contract, Record, Slip, Stage};
@@ -18,7 +18,7 @@ use margin::rule::{MarginRule, OptionLot};
 use refusals::Refusal;
 
 impl OptionListing {
-    // What the margin rule is asked with.
+    // What the margin rule is asked with. A cast that loses bits is refused where it stands, and `try_from` would need an error that never comes.
     pub fn lot(self) -> OptionLot
         requires { OptionWithin (listed_option self) }
         ensures { result ≡ listed_option self }
@@ -30,7 +30,7 @@ impl OptionListing {
         }
     }
 
-    // The option as it is listed, at a rate.
+    // The option as it is listed, at a rate, where it is within the limits of some day.
     pub fn contract(self, rate: u64) -> Contract<OptionTerms>
         requires { (day : ℕ) × OptionListable day self }
         ensures { result ≡ option_contract self rate }
@@ -67,26 +67,18 @@ pub fn check_option(
     let future = held
         .future_at(order.future)
         .ok_or(Refusal::NoSuch(order.future))?;
-    if outside(1, 99_999_999, order.strike) {
-        return Err(Refusal::OutOfLimits(5));
-    }
-    if outside(1, 100_000, order.tick) {
-        return Err(Refusal::OutOfLimits(6));
-    }
-    if outside(u64::from(held.day), 1_000_000, order.last_day) {
-        return Err(Refusal::OutOfLimits(7));
-    }
-    if bad_price(order.tick, order.price) {
-        return Err(Refusal::OutOfLimits(8));
-    }
+    check_limits(5, 1, 99_999_999, order.strike)?;
+    check_limits(6, 1, 100_000, order.tick)?;
+    check_limits(7, u64::from(held.day), 1_000_000, order.last_day)?;
+    check_price(8, order.tick, order.price)?;
     if held.option_at(order.number).is_some() {
         return Err(Refusal::Occupied(order.number));
     }
     Ok(future)
 }
 
-// The same in a book, where every listed future is within the limits.
-fn check_in_book(
+// The same in a book, where a listed future is within the limits.
+fn check_listing(
     state: &State,
     slip: Slip,
     order: OptionListing,
@@ -109,7 +101,7 @@ pub fn list_option<R: MarginRule>(
 ) -> Result<(), Refusal>
     ensures { Performs plainly (option_listed (R.meaning rule.now) (view state.old) slip order) state.old state.new result }
 {
-    let future = check_in_book(state, slip, order)?;
+    let future = check_listing(state, slip, order)?;
     let rate = rule.option_sum(future.lot(), order.lot());
     let option = order.contract(rate);
     state.list_option(order.number as usize, option);

@@ -8,6 +8,7 @@ pub struct Deposit {
     pub amount: u64,
 }
 
+// The fields of a deposit, but a type of its own, so that neither can be handed in for the other.
 #[derive(Clone, Copy, PartialEq, Eq, Debug)]
 pub struct Withdrawal {
     pub account: u64,

@@ -6,11 +6,10 @@ ghost use Rattle.ledger.specs.Funds.{available_of};
 ghost use Rattle.ledger.specs.View.{view};
 ghost use Rattle.session.specs.Cash.{withdrawal_refusal, withdrawn};
 
-use crate::deposit::MOST_AMOUNT;
-use crate::limits::outside;
 use crate::orders::Withdrawal;
+use crate::payment::check_payment;
 use ledger::account::AccountNumber;
-use ledger::records::{Slip, Stage};
+use ledger::records::Slip;
 use ledger::state::State;
 use refusals::Refusal;
 
@@ -30,11 +29,7 @@ pub fn check_withdrawal(
     ensures rows { result_err result ≡ withdrawal_refusal (view state.now) slip order }
     ensures account { IfOk result (λ account. account ≡ order.account) }
 {
-    state.held.admit(slip, Stage::Trading)?;
-    let account = AccountNumber::try_from(order.account)?;
-    if outside(1, MOST_AMOUNT, order.amount) {
-        return Err(Refusal::OutOfLimits(2));
-    }
+    let account = check_payment(&state.held, slip, order.account, order.amount)?;
     if overdraws(state, account, order.amount) {
         return Err(Refusal::ShortOfFunds(order.account));
     }

@@ -17,6 +17,7 @@ pub enum CallWord {
     Option,
 }
 
+// A question, by its word.
 #[derive(Clone, Copy)]
 pub enum QuestionWord {
     Cash,
@@ -39,6 +40,7 @@ pub enum Opening {
     Question(QuestionWord),
 }
 
+// A margin rule, by its word.
 #[derive(Clone, Copy)]
 pub enum RuleWord {
     Standard,

@@ -4,7 +4,7 @@ ghost use Rattle.words.specs.Reasons.{reason_of};
 
 use std::fmt;
 
-#[derive(Clone, Copy)]
+#[derive(Clone, Copy, PartialEq, Eq, Debug)]
 pub enum Unreadable {
     UnknownWord,
     MissingWord,

@@ -1,4 +1,4 @@
-// The words of a command by place; the word that it opens with stands at 0.
+// The words of a command by place; the word that it opens with stands at 0. The words are borrowed slices, seen by their bytes: hence `map bytes words.now` in the clauses.
 ghost use Rattle.std.specs.Prelude.{◌≡◌, ℕ, List, Result, map};
 ghost use Rattle.words.specs.Reasons.{unfit_of};
 ghost use Rattle.words.specs.Numbers.{number_of};
@@ -28,20 +28,21 @@ fn unfit(word: &str) -> Unreadable
     }
 }
 
+// Each width of number has an impl, since it has its own reader and limit; one over both would need a trait for these two types only.
 impl Word for u64 {
     ghost meaning = { number_of 18446744073709551615 };
 
     fn read(word: &str) -> Result<u64, Unreadable> {
-        number(word, u64::MAX).ok_or(unfit(word))
+        number(word, u64::MAX).ok_or_else(|| unfit(word))
     }
 }
 
-// The number of a book.
+// A number of 32 bits, as a book's is.
 impl Word for u32 {
     ghost meaning = { number_of 4294967295 };
 
     fn read(word: &str) -> Result<u32, Unreadable> {
-        short_number(word).ok_or(unfit(word))
+        short_number(word).ok_or_else(|| unfit(word))
     }
 }
 

@@ -3,7 +3,7 @@ use Rattle.std.proofs.lemmas.Result.{IfOk-weaker}
 use Rattle.ledger.specs.Kept.{FutureKept}
 use Rattle.ledger.specs.View.{view}
 use Rattle.ledger.proofs.Keeping.{sound_of, future_kept}
-use Rattle.session.proofs.list_option.check_in_book.Goals as goal
+use Rattle.session.proofs.list_option.check_listing.Goals as goal
 
 pub returns-clause-sound : goal.returns-clause-sound
 returns-clause-sound c =
