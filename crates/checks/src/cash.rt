@@ -1,31 +1,11 @@
 // Deposits, withdrawals and slips.
 use book::book::Book;
-use book::slips::TradingSlip;
 use ledger::records::Stage;
 use margin::standard::Standard;
 use refusals::Refusal;
 use session::orders::{Deposit, Withdrawal};
 
 const MOST: u64 = 1_000_000_000_000_000;
-
-// A deposit and a withdrawal in few words: each call takes a type of its own.
-fn paid_in(
-    book: &mut Book<Standard>,
-    slip: &TradingSlip,
-    account: u64,
-    amount: u64,
-) -> Result<(), Refusal> {
-    book.deposit(slip, Deposit { account, amount })
-}
-
-fn paid_out(
-    book: &mut Book<Standard>,
-    slip: &TradingSlip,
-    account: u64,
-    amount: u64,
-) -> Result<(), Refusal> {
-    book.withdraw(slip, Withdrawal { account, amount })
-}
 
 #[test]
 fn an_empty_book(rt: HostRuntime) {
@@ -50,7 +30,7 @@ fn deposits_at_their_limits(rt: HostRuntime) {
         (32, 5, Err(Refusal::NoSuch(32))),
         (4_294_967_296, 0, Err(Refusal::NoSuch(4_294_967_296))),
     ] {
-        assert_eq!(rt; paid_in(&mut book, &slip, account, amount), answer);
+        assert_eq!(rt; book.deposit(&slip, Deposit { account, amount }), answer);
     }
     assert_eq!(rt; book.cash(0), Ok(1_000_000_000_000_001));
     assert_eq!(rt; book.cash(31), Ok(5));
@@ -60,23 +40,68 @@ fn deposits_at_their_limits(rt: HostRuntime) {
 fn cash_at_its_ceiling(rt: HostRuntime) {
     let (mut book, slip) = Book::new(7, Standard);
     for _ in 0..1_000 {
-        assert_eq!(rt; paid_in(&mut book, &slip, 3, MOST), Ok(()));
+        assert_eq!(rt;
+            book.deposit(
+                &slip,
+                Deposit {
+                    account: 3,
+                    amount: MOST
+                }
+            ),
+            Ok(())
+        );
     }
     assert_eq!(rt; book.cash(3), Ok(1_000_000_000_000_000_000));
     assert_eq!(rt;
-        paid_in(&mut book, &slip, 3, 1),
+        book.deposit(
+            &slip,
+            Deposit {
+                account: 3,
+                amount: 1
+            }
+        ),
         Err(Refusal::BeyondRange(3))
     );
     assert_eq!(rt;
-        paid_in(&mut book, &slip, 3, 0),
+        book.deposit(
+            &slip,
+            Deposit {
+                account: 3,
+                amount: 0
+            }
+        ),
         Err(Refusal::OutOfLimits(2))
     );
-    assert_eq!(rt; paid_out(&mut book, &slip, 3, 1), Ok(()));
     assert_eq!(rt;
-        paid_in(&mut book, &slip, 3, 2),
+        book.withdraw(
+            &slip,
+            Withdrawal {
+                account: 3,
+                amount: 1
+            }
+        ),
+        Ok(())
+    );
+    assert_eq!(rt;
+        book.deposit(
+            &slip,
+            Deposit {
+                account: 3,
+                amount: 2
+            }
+        ),
         Err(Refusal::BeyondRange(3))
     );
-    assert_eq!(rt; paid_in(&mut book, &slip, 3, 1), Ok(()));
+    assert_eq!(rt;
+        book.deposit(
+            &slip,
+            Deposit {
+                account: 3,
+                amount: 1
+            }
+        ),
+        Ok(())
+    );
     assert_eq!(rt; book.cash(3), Ok(1_000_000_000_000_000_000));
 }
 
@@ -84,10 +109,25 @@ fn cash_at_its_ceiling(rt: HostRuntime) {
 fn withdrawals_at_their_limits(rt: HostRuntime) {
     let (mut book, slip) = Book::new(7, Standard);
     assert_eq!(rt;
-        paid_out(&mut book, &slip, 0, 1),
+        book.withdraw(
+            &slip,
+            Withdrawal {
+                account: 0,
+                amount: 1
+            }
+        ),
         Err(Refusal::ShortOfFunds(0))
     );
-    assert_eq!(rt; paid_in(&mut book, &slip, 0, 500), Ok(()));
+    assert_eq!(rt;
+        book.deposit(
+            &slip,
+            Deposit {
+                account: 0,
+                amount: 500
+            }
+        ),
+        Ok(())
+    );
     for (account, amount, answer) in [
         (0, 501, Err(Refusal::ShortOfFunds(0))),
         (0, 0, Err(Refusal::OutOfLimits(2))),
@@ -97,7 +137,10 @@ fn withdrawals_at_their_limits(rt: HostRuntime) {
         (0, 500, Ok(())),
         (0, 1, Err(Refusal::ShortOfFunds(0))),
     ] {
-        assert_eq!(rt; paid_out(&mut book, &slip, account, amount), answer);
+        assert_eq!(rt;
+            book.withdraw(&slip, Withdrawal { account, amount }),
+            answer
+        );
     }
     assert_eq!(rt; book.cash(0), Ok(0));
 }
@@ -107,13 +150,34 @@ fn a_slip_of_another_book(rt: HostRuntime) {
     let (mut book, slip) = Book::new(7, Standard);
     let (_other, theirs) = Book::new(8, Standard);
     assert_eq!(rt;
-        paid_in(&mut book, &theirs, 32, 0),
+        book.deposit(
+            &theirs,
+            Deposit {
+                account: 32,
+                amount: 0
+            }
+        ),
         Err(Refusal::WrongSlip(8))
     );
     assert_eq!(rt;
-        paid_out(&mut book, &theirs, 0, 1),
+        book.withdraw(
+            &theirs,
+            Withdrawal {
+                account: 0,
+                amount: 1
+            }
+        ),
         Err(Refusal::WrongSlip(8))
     );
-    assert_eq!(rt; paid_in(&mut book, &slip, 0, 1), Ok(()));
+    assert_eq!(rt;
+        book.deposit(
+            &slip,
+            Deposit {
+                account: 0,
+                amount: 1
+            }
+        ),
+        Ok(())
+    );
     assert_eq!(rt; book.cash(0), Ok(1));
 }

@@ -52,6 +52,7 @@ impl TryFrom<u64> for AccountNumber {
         if number >= 32 {
             return Err(Refusal::NoSuch(number));
         }
+        // Rust has no `From` here, and the check knows that nothing is lost.
         Ok(AccountNumber {
             place: number as usize,
         })

@@ -39,10 +39,7 @@ pub fn lots_frozen_by(request: &Request, account: usize, option: u64) -> u32
 fn lots_frozen_in(place: &Option<Request>, account: usize, option: u64) -> u32
     ensures { result ≡ of_place (lots_frozen_by account option) place.now }
 {
-    match place {
-        Some(request) => lots_frozen_by(request, account, option),
-        None => 0,
-    }
+    place.map_or(0, |request| lots_frozen_by(&request, account, option))
 }
 
 impl Record {
@@ -63,7 +60,7 @@ impl Record {
         ensures margin { result ≡ margin_of (read self.now) account }
         ensures bound { result ≤ 20 * 2 ^ 97 }
     {
-        // A sum with its bound, as that of the frozen funds.
+        // A chain's `sum` is proved to fit, but not to stay below the bound that the available funds need.
         let holdings = &self.accounts[account.place()].holdings.rows;
         let mut total = 0;
         for (contract, holding) in holdings.iter().enumerate() {
@@ -101,10 +98,7 @@ impl Record {
         ensures frozen { result ≡ of_place (funds_frozen_by (read self.now) account) place.now }
         ensures bound { result ≤ 2 ^ 97 }
     {
-        match place {
-            Some(request) => self.funds_frozen_by(request, account),
-            None => 0,
-        }
+        place.map_or(0, |request| self.funds_frozen_by(&request, account))
     }
 
     // The funds that an account's live instruction exercises freeze.
@@ -112,7 +106,7 @@ impl Record {
         ensures frozen { result ≡ frozen_of (read self.now) account }
         ensures bound { result ≤ 256 * 2 ^ 97 }
     {
-        // A chain's `sum` is proved to fit, but not to stay below the bound that the available funds need.
+        // A loop for its bound, as that of the margin.
         let mut total = 0;
         for place in &self.requests.places {
             total += self.funds_frozen_in(place, account);
@@ -132,6 +126,7 @@ impl Record {
         requires { contract < 20 }
         ensures { result ≡ free_of (read self.now) account contract }
     {
+        // What is left is no more than the long lots, so the cast loses nothing.
         let long = self.accounts[account.place()].holdings.rows[contract].long;
         let frozen = self.frozen_lots(account.place(), contract as u64);
         u64::from(long).saturating_sub(frozen) as u32
@@ -161,6 +156,7 @@ impl State {
         ensures funds { result ≡ available_of (view self.now) account }
         ensures bound { unsigned_abs result ≤ 2 ^ 120 }
     {
+        // Their bounds let both sums be signed.
         let margin = self.held.margin(account);
         self.cash(account) - margin as i128 - self.frozen(account) as i128
     }

@@ -9,7 +9,7 @@ use crate::records::{Contract, Record};
 use kinds::terms::{FutureTerms, OptionTerms};
 use margin::rule::FutureLot;
 
-// What is listed at a number in a table whose first row has the number `first`.
+// What is listed at a number in a table whose first row has the number `first`. The number becomes a place by `as`, as everywhere.
 fn row<T: Copy>(rows: &[Option<Contract<T>>], first: u64, number: u64) -> Option<Contract<T>>
     ensures { result ≡ row_of rows.now first number }
 {

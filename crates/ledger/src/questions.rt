@@ -87,7 +87,7 @@ impl Record {
         self.quote_at(number).ok_or(Refusal::NoSuch(number))
     }
 
-    // An account's lots in a contract.
+    // An account's lots in a contract, whose number is a place in the holdings by `as`.
     pub fn position(&self, account: AccountNumber, contract: u64) -> Result<Position, Refusal>
         ensures { result ≡ position_answer (read self.now) account contract }
     {

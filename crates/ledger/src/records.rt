@@ -1,6 +1,7 @@
 // The records inside a book. A call's fields are 64 bits wide, so that any number can be brought and named in a refusal;
 // the records are as narrow as the limits allow. Money is in fen. A number becomes a place by `as`: Rust has no `From` there,
-// and a cast that loses bits is refused. A contract's number says its kind, as members write it. The tables are of fixed size,
+// and a cast that loses bits is refused. A contract's number says its kind, as members write it and
+// the definitions read it: an enum would be made of it at each use. The tables are of fixed size,
 // on no heap; each is a struct of its own, as a generic one can't hold an array of its parameter.
 ghost use Rattle.std.specs.Prelude.{◌≡◌, ◌<◌, Some, length, slice_set};
 ghost use Rattle.ledger.specs.Words.{stage_word};

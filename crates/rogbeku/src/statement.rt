@@ -122,7 +122,7 @@ fn tell_account<R: MarginRule, W: Write>(
     tell_holdings(out, book, account)
 }
 
-// All accounts' lines: a loop of its own, as the one over contracts prints by other functions.
+// All accounts' lines. The loop is that over contracts again: what the two call has contracts of its own, which a closure would have to repeat.
 fn tell_accounts<R: MarginRule, W: Write>(out: &mut W, book: &Book<R>) -> io::Result<()>
     ensures { OnOk result (Appends (W.contents out.old) (W.contents out.new) (lines_to 32 (account_lines (view book.now.state)))) }
 {

@@ -29,7 +29,7 @@ pub fn words<'a>(heap: Global, line: &'a str) -> Result<Vec<&'a str>, AllocError
         .collect(heap)
 }
 
-// The bytes of a line up to its comment. They may be no text, and a slice has none of the methods by which `before_comment` cuts.
+// The bytes of a line up to its comment. They may be no text, and a slice has no `split_once`, by which `before_comment` cuts.
 fn said(line: &[u8]) -> &[u8]
     ensures { result.now ≡ before 35 line.now }
 {

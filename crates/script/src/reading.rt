@@ -76,10 +76,7 @@ impl Reader {
     fn lacks_book(&self) -> bool
         ensures { result ≡ lacks_book_of self.now.start self.now.faults.items }
     {
-        match self.start {
-            Start::Awaited => !told_first(&self.faults),
-            Start::Made | Start::Missed => false,
-        }
+        self.start == Start::Awaited && !told_first(&self.faults)
     }
 
     // The commands, or each line that cannot be read, in rising order; a missing book is the first fault.
@@ -117,6 +114,7 @@ pub fn script(heap: Global, text: &[u8]) -> Result<Vec<Line>, ReadError<Vec<Faul
         lines: Vec::new(heap),
         faults: Vec::new(heap),
     };
+    // Lines are counted from 1; a place is as wide as a number of a line, so the cast loses nothing.
     for (index, line) in text.split(|byte| *byte == b'\n').enumerate() {
         reader.take(heap, index as u64 + 1, line)?;
     }

@@ -1,4 +1,4 @@
-// What each call of the session brings besides its slip: fields of any value, in the order in which refusals rank them from 1.
+// What each call of the session brings besides its slip, which is shown and not written: fields of any value, in the order in which refusals rank them from 1.
 use kinds::terms::Style;
 use margin::rule::Right;
 
