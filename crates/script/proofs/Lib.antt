@@ -1,3 +1,5 @@
+pub mod BookWord
 pub mod FirstWord
 pub mod Parts
 pub mod Saying
+pub mod Spaces

@@ -27,7 +27,7 @@ longer false b pieces parts (inl e) = inl (ap (onto_first b) e)
 longer false b pieces [] (inr e) = inl (ap (onto_first b) e)
 longer false b pieces (part ∷ parts) (inr e) = inr (ap (onto_first b) e)
 
-ends : (mark : ℕ) (text : List ℕ) → Ends (slice_split (λ b. eqb b mark) text) (parts mark text)
+pub ends : (mark : ℕ) (text : List ℕ) → Ends (slice_split (λ b. eqb b mark) text) (parts mark text)
 ends mark [] = inr refl
 ends mark (b ∷ bs) = longer (eqb b mark) b _ _ (ends mark bs)
 

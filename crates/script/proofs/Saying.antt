@@ -1,9 +1,7 @@
 -- What a line says by its words. Assumes nothing.
-use Rattle.std.proofs.Common.{◌≡◌, ℕ, suc, ◌<◌, Bool, true, false, cond, eqb, List, [], ◌∷◌, map, length, get_or, Some, None, Option, Ok, Err, Result, IsAscii, MatchResult, sym, refl, ap, ◌∙◌, arith, Bor}
-use Rattle.std.specs.List.{filter, find}
-use Rattle.std.specs.Option.{option_map, option_eq, unwrap_or}
+use Rattle.std.proofs.Common.{◌≡◌, ℕ, suc, ◌<◌, true, false, eqb, List, [], ◌∷◌, map, length, Some, None, Option, Ok, Err, Result, IsAscii, MatchResult, sym, refl, ap, ◌∙◌, arith, Bor}
 use Rattle.std.specs.Result.{IsErrAnd}
-use Rattle.std.specs.Str.{bytes_eq, IsUtf8}
+use Rattle.std.specs.Str.{IsUtf8}
 use Rattle.std.proofs.lemmas.List.{nil_from_length, length-map}
 use Rattle.std.proofs.lemmas.Str.{IsUtf8-from_ascii}
 use Rattle.std.proofs.lemmas.Bool.Decides.{nat_tests}
@@ -16,19 +14,6 @@ use Rattle.script.specs.declared.error.ReadError.TheVariants.{Text}
 use Rattle.script.specs.Commands.{command_of}
 use Rattle.script.specs.Lines.{words_of}
 use Rattle.script.specs.Readings.{Gives, is_plain, worded, says_of}
-
-kept : (b : Bool) (part : List ℕ) (parts : List (List ℕ)) (found : Option (List ℕ)) → get_or parts 0 [] ≡ unwrap_or found [] → get_or (cond b (part ∷ parts) parts) 0 [] ≡ unwrap_or (cond b (Some part) found) []
-kept true part parts found e = refl
-kept false part parts found e = e
-
-first_kept : (t : List ℕ → Bool) (parts : List (List ℕ)) → get_or (filter t parts) 0 [] ≡ unwrap_or (find t parts) []
-first_kept t [] = refl
-first_kept t (part ∷ parts) = kept (t part) part (filter t parts) (find t parts) (first_kept t parts)
-
--- that `find` finds a word is that it is the first one kept
-pub first_word_is : (t : List ℕ → Bool) (parts : List (List ℕ)) (r : Option (Bor (List ℕ))) (book : Bor (List ℕ)) (word : List ℕ) → option_map (λ x. x.now) r ≡ find t parts → book.now ≡ word → bytes_eq [] word ≡ false → option_eq (λ x y. bytes_eq x.now y.now) r (Some book) ≡ bytes_eq (get_or (filter t parts) 0 []) word
-first_word_is t parts None book word h same e = rw (first_kept t parts, ← h) (sym e)
-first_word_is t parts (Some x) book word h same e = rw (first_kept t parts, ← h, same) refl
 
 -- a line of ASCII is plain text
 pub plain : (line : List ℕ) → IsAscii line → is_plain line ≡ true

@@ -1,5 +1,5 @@
 -- The lines of a script and the words of a line. Assumes nothing.
-use Rattle.std.specs.Prelude.{ℕ, Bool, cond, not, List, [], ◌∷◌, length, codes, ◌==◌, slice_index_or, filter}
+use Rattle.std.specs.Prelude.{ℕ, Bool, true, cond, not, ◌||◌, List, [], ◌∷◌, length, codes, ◌==◌, slice_index_or, filter}
 use Rattle.std.specs.List.{slice_split, onto_first}
 use Rattle.std.specs.Str.{bytes_eq}
 use Rattle.words.specs.Cuts.{before}
@@ -20,6 +20,16 @@ spaced text = nonempty (slice_split (λ b. b == 32) text)
 -- the words of a line, up to its comment, which begins with #, byte 35
 abbrev pub words_of : List ℕ → List (List ℕ)
 words_of line = spaced (before 35 line)
+
+-- what follows the spaces that a text begins with
+abbrev pub unspaced : List ℕ → List ℕ
+unspaced [] = []
+unspaced (b ∷ bs) = cond (b == 32) (unspaced bs) (b ∷ bs)
+
+-- whether a word ends before this text: at its end, at a comment or at a space
+abbrev pub ends_word_of : List ℕ → Bool
+ends_word_of [] = true
+ends_word_of (b ∷ bs) = b == 35 || b == 32
 
 -- whether the first of the words is `book`
 abbrev pub book_first_of : List (List ℕ) → Bool

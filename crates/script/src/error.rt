@@ -6,7 +6,7 @@ use std::alloc::{AllocError, AllocFailed};
 use words::unreadable::Unreadable;
 
 // What is wrong with the text, or that memory ran out.
-#[derive(Drop)]
+#[derive(Clone, Copy)]
 pub enum ReadError<E> {
     Text(E),
     Memory(AllocError),

@@ -2,7 +2,7 @@
 ghost use Rattle.std.specs.Prelude.{◌≡◌, true, false, map, IfOk, MatchResult};
 ghost use Rattle.words.specs.Cuts.{before};
 ghost use Rattle.words.specs.Words.{bytes};
-ghost use Rattle.script.specs.Lines.{spaced, words_of, book_first_of, opens_book_of};
+ghost use Rattle.script.specs.Lines.{unspaced, words_of, ends_word_of, opens_book_of};
 ghost use Rattle.script.specs.Readings.{Gives, is_plain, says_of};
 
 use crate::command::Command;
@@ -29,32 +29,34 @@ pub fn words<'a>(heap: Global, line: &'a str) -> Result<Vec<&'a str>, AllocError
         .collect(heap)
 }
 
-// The bytes of a line up to its comment. They may be no text, and a slice has no `split_once`, by which `before_comment` cuts.
-fn said(line: &[u8]) -> &[u8]
-    ensures { result.now ≡ before 35 line.now }
+// What follows the spaces that a line begins with.
+fn after_spaces(line: &[u8]) -> &[u8]
+    ensures { result.now ≡ unspaced line.now }
 {
-    let end = line
+    let start = line
         .iter()
-        .position(|byte| *byte == b'#')
+        .position(|byte| *byte != b' ')
         .unwrap_or(line.len());
-    &line[..end]
+    &line[start..]
 }
 
-// Whether `book` is the first of the words that stand between spaces.
-fn book_first(text: &[u8]) -> bool
-    ensures { result ≡ book_first_of (spaced text.now) }
+// Whether a word that stands before `rest` ends there.
+fn ends_word(rest: &[u8]) -> bool
+    ensures { result ≡ ends_word_of rest.now }
 {
-    let first = text
-        .split(|byte| *byte == b' ')
-        .find(|word| !word.is_empty());
-    first == Some(b"book".as_slice())
+    match rest {
+        [] | [b' ' | b'#', ..] => true,
+        _ => false,
+    }
 }
 
-// Whether the first word of a line is `book`, whatever follows it.
+// Whether the first word of a line is `book`, whatever follows it. No byte after that word is looked at: a line may be long.
 pub fn opens_book(line: &[u8]) -> bool
     ensures { result ≡ opens_book_of line.now }
 {
-    book_first(said(line))
+    after_spaces(line)
+        .strip_prefix(b"book")
+        .is_some_and(|rest| ends_word(rest))
 }
 
 // A line as text; only plain text can be read.

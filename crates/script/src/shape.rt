@@ -1,7 +1,7 @@
 // The shape of each command: which words follow the one that it opens with.
 ghost use Rattle.std.specs.Prelude.{◌≡◌, ◌<◌, map};
 ghost use Rattle.words.specs.Words.{bytes};
-ghost use Rattle.script.specs.Shapes.{one_number, two_numbers, future_of, option_of, order_of, base_rule_of, rule_of, alone_of, question_of};
+ghost use Rattle.script.specs.Shapes.{one_number, two_numbers, future_of, option_of, order_of, ruled, rule_of, alone_of, question_of};
 
 use crate::command::{BaseRule, Question, RuleName};
 use session::orders::{Deposit, FutureListing, OptionListing, Order, Withdrawal};
@@ -79,12 +79,12 @@ pub fn order(call: CallWord, words: &[&str]) -> Result<Order, Unreadable>
     }
 }
 
-// standard, or flat SUM, with which the line ends
-fn base_rule(words: &[&str], place: usize) -> Result<BaseRule, Unreadable>
+// What follows the word of a rule with no addition, which is read already: nothing, or SUM, with which the line ends.
+fn base_rule(words: &[&str], place: usize, word: RuleWord) -> Result<BaseRule, Unreadable>
     requires { place < 5 }
-    ensures { result ≡ base_rule_of (map bytes words.now) place }
+    ensures { result ≡ ruled (map bytes words.now) place word }
 {
-    match read_at(words, place)? {
+    match word {
         RuleWord::Standard => {
             end(words, place + 1)?;
             Ok(BaseRule::Standard)
@@ -102,11 +102,12 @@ fn base_rule(words: &[&str], place: usize) -> Result<BaseRule, Unreadable>
 pub fn rule(words: &[&str]) -> Result<RuleName, Unreadable>
     ensures { result ≡ rule_of (map bytes words.now) }
 {
-    match read_at(words, 2)? {
-        RuleWord::Standard | RuleWord::Flat => base_rule(words, 2).map(RuleName::Base),
+    let word = read_at(words, 2)?;
+    match word {
+        RuleWord::Standard | RuleWord::Flat => base_rule(words, 2, word).map(RuleName::Base),
         RuleWord::AddOn => {
             let addition = read_at(words, 3)?;
-            let base = base_rule(words, 4)?;
+            let base = base_rule(words, 4, read_at(words, 4)?)?;
             Ok(RuleName::AddOn { addition, base })
         }
     }

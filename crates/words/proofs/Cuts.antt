@@ -25,10 +25,10 @@ drop_on false b n bs =
     let next : 1 + n + 1 ≡ suc (n + 1) = omega arith in
     ap (λ m. drop m (b ∷ bs)) next
 
-before_on : (mark b : ℕ) (bs : List ℕ) → before mark (b ∷ bs) ≡ cond (eqb b mark) [] (b ∷ before mark bs)
+pub before_on : (mark b : ℕ) (bs : List ℕ) → before mark (b ∷ bs) ≡ cond (eqb b mark) [] (b ∷ before mark bs)
 before_on mark b bs = take_on (eqb b mark) b (position_or_len (λ c. eqb c mark) bs) bs
 
-after_on : (mark b : ℕ) (bs : List ℕ) → after mark (b ∷ bs) ≡ cond (eqb b mark) bs (after mark bs)
+pub after_on : (mark b : ℕ) (bs : List ℕ) → after mark (b ∷ bs) ≡ cond (eqb b mark) bs (after mark bs)
 after_on mark b bs = drop_on (eqb b mark) b (position_or_len (λ c. eqb c mark) bs) bs
 
 module _ {mark : ℕ} where

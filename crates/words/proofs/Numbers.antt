@@ -13,7 +13,7 @@ own = numerals_by_fold _ (search rules) value_after (search rules)
 fits : (bs : List ℕ) (most : ℕ) → (all_ascii_digits bs ≡ true) × (0 < length bs) × (value_after 0 bs < 2 ^ 64) → then_some (nat_le (value_after 0 bs) most) (value_after 0 bs) ≡ read_number bs most
 fits bs most h = grind (arith, nat_tests)
 
-no_numeral : (bs : List ℕ) (most : ℕ) → most < 2 ^ 64 → ((all_ascii_digits bs ≡ true) × (0 < length bs) × (value_after 0 bs < 2 ^ 64) → ⊥) → None ≡ read_number bs most
+pub no_numeral : (bs : List ℕ) (most : ℕ) → most < 2 ^ 64 → ((all_ascii_digits bs ≡ true) × (0 < length bs) × (value_after 0 bs < 2 ^ 64) → ⊥) → None ≡ read_number bs most
 no_numeral bs most small h = grind (arith, nat_tests)
 
 -- what `parse` reads, and a `filter` keeps where it is at most `most`
