@@ -88,15 +88,24 @@ pub enum Stage {
     Draw,
 }
 
+impl Stage {
+    // Its word.
+    pub fn word(self) -> &'static str
+        ensures { result.now ≡ stage_word self }
+    {
+        match self {
+            Stage::Trading => "trading",
+            Stage::Cut => "cut",
+            Stage::Draw => "draw",
+        }
+    }
+}
+
 impl fmt::Display for Stage {
     ghost output = { λ stage. Some (stage_word stage) };
 
     fn fmt<W: fmt::Write>(&self, f: &mut fmt::Formatter<W>) -> fmt::Result {
-        f.write_str(match self {
-            Stage::Trading => "trading",
-            Stage::Cut => "cut",
-            Stage::Draw => "draw",
-        })
+        f.write_str(self.word())
     }
 }
 

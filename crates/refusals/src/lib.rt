@@ -17,16 +17,25 @@ pub enum Layer {
     Funds,
 }
 
-impl fmt::Display for Layer {
-    ghost output = { λ layer. Some (layer_word layer) };
-
-    fn fmt<W: fmt::Write>(&self, f: &mut fmt::Formatter<W>) -> fmt::Result {
-        f.write_str(match self {
+impl Layer {
+    // Its word.
+    pub fn word(self) -> &'static str
+        ensures { result.now ≡ layer_word self }
+    {
+        match self {
             Layer::Day => "day",
             Layer::Book => "book",
             Layer::Holding => "holding",
             Layer::Funds => "funds",
-        })
+        }
+    }
+}
+
+impl fmt::Display for Layer {
+    ghost output = { λ layer. Some (layer_word layer) };
+
+    fn fmt<W: fmt::Write>(&self, f: &mut fmt::Formatter<W>) -> fmt::Result {
+        f.write_str(self.word())
     }
 }
 
