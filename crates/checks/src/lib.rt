@@ -5,6 +5,8 @@
 mod cash;
 pub mod examples;
 #[cfg(test)]
+mod kind_values;
+#[cfg(test)]
 mod lines;
 #[cfg(test)]
 mod listings;

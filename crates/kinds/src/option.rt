@@ -19,6 +19,11 @@ pub type CallOption = OptionContract<CallRight>;
 
 pub type PutOption = OptionContract<PutRight>;
 
+// Each is a value too, as `Future` is.
+pub const CallOption: CallOption = OptionContract(PhantomData);
+
+pub const PutOption: PutOption = OptionContract(PhantomData);
+
 // What the buyer of a lot gets: he pays its price.
 fn premium(units: u32, price: u32) -> i128
     ensures { result ≡ paid units price }
