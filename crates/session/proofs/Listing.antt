@@ -16,7 +16,7 @@ use Rattle.session.specs.declared.orders.FutureListing.{FutureListing}
 use Rattle.session.specs.declared.orders.OptionListing.{OptionListing}
 
 -- a row that was passed: its test failed, and no later row was met
-passed : (b : Bool) (r : Refusal) (rest : Option Refusal) → cond b (Some r) rest ≡ None → (b ≡ false) × (rest ≡ None)
+pub passed : (b : Bool) (r : Refusal) (rest : Option Refusal) → cond b (Some r) rest ≡ None → (b ≡ false) × (rest ≡ None)
 passed true r rest e = absurd (grind (arith, nat_tests))
 passed false r rest e = (refl, e)
 

@@ -1,5 +1,5 @@
 -- Deposits and withdrawals: the rows in their order, and what is done. Assumes nothing.
-use Rattle.std.specs.Prelude.{ℕ, ◌^◌, cond, pos, ◌+ℤ◌, ◌-ℤ◌, Some, None, Option, Ok, Err, Result, int_lt, nat_le}
+use Rattle.std.specs.Prelude.{ℕ, ◌^◌, Bool, cond, pos, ◌+ℤ◌, ◌-ℤ◌, Some, None, Option, Ok, Err, Result, int_lt, nat_le}
 use Rattle.refusals.specs.declared.Refusal.{Refusal}
 use Rattle.refusals.specs.declared.Refusal.TheVariants.{WrongSlip, NoSuch, OutOfLimits, ShortOfFunds, BeyondRange}
 use Rattle.ledger.specs.Ledger.{Ledger, cash_of, with_cash}
@@ -38,13 +38,17 @@ deposit_effect s d = with_cash s d.account (cash_of s d.account +ℤ pos d.amoun
 unfoldable pub deposited : Ledger → Slip → Deposit → Outcome
 deposited s slip d = unless (deposit_refusal s slip d) Done (deposit_effect s d)
 
+-- less than 0 would be left of the available funds
+unfoldable pub overdrawn : Ledger → ℕ → ℕ → Bool
+overdrawn s account amount = int_lt (available_of s account -ℤ pos amount) (pos 0)
+
 -- what is left of the available funds may not be below 0
 abbrev pub withdrawal_refusal : Ledger → Slip → Withdrawal → Option Refusal
 withdrawal_refusal s slip w =
     cond (wrong_slip s slip Trading) (Some (WrongSlip slip.number))
     (cond (nat_le 32 w.account) (Some (NoSuch w.account))
     (cond (outside 1 (10 ^ 15) w.amount) (Some (OutOfLimits 2))
-    (cond (int_lt (available_of s w.account -ℤ pos w.amount) (pos 0)) (Some (ShortOfFunds w.account))
+    (cond (overdrawn s w.account w.amount) (Some (ShortOfFunds w.account))
     None)))
 
 -- the account has the amount less

@@ -6,6 +6,7 @@ ghost use Rattle.ledger.specs.View.{view};
 ghost use Rattle.session.specs.Cash.{deposit_refusal, deposited};
 
 use crate::orders::Deposit;
+pub use crate::payment::MOST_AMOUNT;
 use crate::payment::check_payment;
 use ledger::account::AccountNumber;
 use ledger::records::Slip;

@@ -1,10 +1,9 @@
 // Cash paid out.
-ghost use Rattle.std.specs.Prelude.{◌≡◌, IfOk, pos, ◌-ℤ◌, int_lt};
+ghost use Rattle.std.specs.Prelude.{◌≡◌, IfOk};
 ghost use Rattle.std.specs.Result.{result_err};
 ghost use Rattle.ledger.specs.Calls.{Performs, plainly};
-ghost use Rattle.ledger.specs.Funds.{available_of};
 ghost use Rattle.ledger.specs.View.{view};
-ghost use Rattle.session.specs.Cash.{withdrawal_refusal, withdrawn};
+ghost use Rattle.session.specs.Cash.{overdrawn, withdrawal_refusal, withdrawn};
 
 use crate::orders::Withdrawal;
 use crate::payment::check_payment;
@@ -14,8 +13,9 @@ use ledger::state::State;
 use refusals::Refusal;
 
 // Whether an amount is more than the available funds, so that less than 0 would be left of them.
+#[tactic(auto, unfolding(crate::specs::Cash::overdrawn))]
 fn overdraws(state: &State, account: AccountNumber, amount: u64) -> bool
-    ensures { result ≡ int_lt (available_of (view state.now) account -ℤ pos amount) (pos 0) }
+    ensures { result ≡ overdrawn (view state.now) account amount }
 {
     state.available(account) - i128::from(amount) < 0
 }
@@ -36,7 +36,7 @@ pub fn check_withdrawal(
     Ok(account)
 }
 
-#[tactic(auto, unfolding(crate::specs::Cash::withdrawn))]
+#[tactic(auto, unfolding(crate::specs::Cash::withdrawn, crate::specs::Cash::overdrawn))]
 pub fn withdraw(state: &mut State, slip: Slip, order: Withdrawal) -> Result<(), Refusal>
     ensures { Performs plainly (withdrawn (view state.old) slip order) state.old state.new result }
 {
