@@ -55,7 +55,8 @@ impl Record {
         }
     }
 
-    // An account's margin.
+    // An account's margin. It stays a call, which keeps the available funds small enough for the compiler to leave them out where nobody reads them.
+    #[inline(never)]
     pub fn margin(&self, account: AccountNumber) -> u128
         ensures margin { result ≡ margin_of (read self.now) account }
         ensures bound { result ≤ 20 * 2 ^ 97 }
