@@ -55,7 +55,7 @@ impl Record {
         }
     }
 
-    // An account's margin. It stays a call, which keeps the available funds small enough for the compiler to leave them out where nobody reads them.
+    // An account's margin. It stays a call: copied into the available funds it makes these too large to copy, and a caller who drops them then pays for the sum over the requests.
     #[inline(never)]
     pub fn margin(&self, account: AccountNumber) -> u128
         ensures margin { result ≡ margin_of (read self.now) account }
